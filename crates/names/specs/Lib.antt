@@ -1,0 +1,3 @@
+pub mod Faults
+pub mod Names
+pub mod Spelled
