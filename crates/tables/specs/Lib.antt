@@ -1,0 +1,8 @@
+pub mod Rows
+pub mod Rowed
+pub mod Listed
+pub mod Usage
+pub mod Reading
+pub mod Grown
+pub mod Refusals
+pub mod Told

@@ -1,0 +1,4 @@
+pub mod Fields
+pub mod Figures
+pub mod Forms
+pub mod Lines
