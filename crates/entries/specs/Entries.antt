@@ -24,7 +24,6 @@ use Rattle.entries.specs.declared.fault.LineFault.{LineFault}
 use Rattle.entries.specs.declared.fault.LineFault.the-variants.{Form, Figure, Name}
 
 infixr 20 _then_
-
 abbrev pub _then_ : {X Y E : Type 0} → Result X E → (X → Result Y E) → Result Y E
 _then_ (Ok x) next = next x
 _then_ (Err e) next = Err e

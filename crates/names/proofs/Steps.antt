@@ -61,10 +61,10 @@ module _ (t : List Entity) where
       ⊎-elim
       (λ bad. never (BadEntity at) n (decodedFrom t 0 at name (b ∷ s)) (cond-true (eqb (width t (b ∷ s)) 0) _ _ bad) e)
       (λ good.
-          ⊎-elim
-          (λ full. never (TooLong at) n (decodedFrom t 0 at name (b ∷ s)) (cond-false (eqb (width t (b ∷ s)) 0) _ _ good ∙ cond-true (leb 32 (length name)) _ _ full) e)
-          (λ room. (leb-false 32 (length name) room, sym (cond-false (eqb (width t (b ∷ s)) 0) _ _ good ∙ cond-false (leb 32 (length name)) _ _ room) ∙ e))
-          (cases-bool (leb 32 (length name))))
+      ⊎-elim
+      (λ full. never (TooLong at) n (decodedFrom t 0 at name (b ∷ s)) (cond-false (eqb (width t (b ∷ s)) 0) _ _ good ∙ cond-true (leb 32 (length name)) _ _ full) e)
+      (λ room. (leb-false 32 (length name) room, sym (cond-false (eqb (width t (b ∷ s)) 0) _ _ good ∙ cond-false (leb 32 (length name)) _ _ room) ∙ e))
+      (cases-bool (leb 32 (length name))))
       (cases-bool (eqb (width t (b ∷ s)) 0))
 
   short : (skip at : ℕ) (name s n : List ℕ) → length name ≤ 32 → decodedFrom t skip at name s ≡ Ok n → length n ≤ 32
@@ -80,13 +80,13 @@ module _ (t : List Entity) where
       ⊎-elim
       (λ none. never Empty n (admitted (Ok m)) (cond-true (eqb (length m) 0) _ _ none) e)
       (λ some.
-          ⊎-elim
-          (λ dash. never LoneHyphen n (admitted (Ok m)) (cond-false (eqb (length m) 0) _ _ some ∙ cond-true (eqb (length m) 1 && eqb (getD m 0 0) 45) _ _ dash) e)
-          (λ plain.
-              let same : _≡_ {A = Result (List ℕ) NameFault} (Ok m) (Ok n) = sym (cond-false (eqb (length m) 0) _ _ some ∙ cond-false (eqb (length m) 1 && eqb (getD m 0 0) 45) _ _ plain) ∙ e in
-              let is : m ≡ n = cc in
-              (same, (let ne = eqb-false (length m) 0 some in omega (arith, ap length is), λ h. let lone : m ≡ 45 ∷ [] = is ∙ h in let one = ap length lone in let dash = ap (λ l. getD l 0 0) lone in grind (arith, tells))))
-          (cases-bool (eqb (length m) 1 && eqb (getD m 0 0) 45)))
+      ⊎-elim
+      (λ dash. never LoneHyphen n (admitted (Ok m)) (cond-false (eqb (length m) 0) _ _ some ∙ cond-true (eqb (length m) 1 && eqb (getD m 0 0) 45) _ _ dash) e)
+      (λ plain.
+      let same : _≡_ {A = Result (List ℕ) NameFault} (Ok m) (Ok n) = sym (cond-false (eqb (length m) 0) _ _ some ∙ cond-false (eqb (length m) 1 && eqb (getD m 0 0) 45) _ _ plain) ∙ e in
+      let is : m ≡ n = cc in
+      (same, (let ne = eqb-false (length m) 0 some in omega (arith, ap length is), λ h. let lone : m ≡ 45 ∷ [] = is ∙ h in let one = ap length lone in let dash = ap (λ l. getD l 0 0) lone in grind (arith, tells))))
+      (cases-bool (eqb (length m) 1 && eqb (getD m 0 0) 45)))
       (cases-bool (eqb (length m) 0))
   admits (Err x) n e = let z : _≡_ {A = ℕ} 0 1 = cc in absurd (omega arith)
 

@@ -70,8 +70,8 @@ rising-placed r (x ∷ xs) u =
     cond-both (leb (x .period) (r .period)) _ _ (λ ys. rising ys ≡ true)
     (λ t. and-from _ _ (leads-placed (x .period) r xs (leb-true (x .period) (r .period) t) (a .0)) (rising-placed r xs (a .1)))
     (λ f.
-        let less = leb-false (x .period) (r .period) f in
-        and-from (leads (r .period) (x ∷ xs)) _ (and-from _ _ (le-leb (r .period) (x .period) (omega arith)) (leads-weaker (r .period) (x .period) xs (omega arith) (a .0))) u)
+    let less = leb-false (x .period) (r .period) f in
+    and-from (leads (r .period) (x ∷ xs)) _ (and-from _ _ (le-leb (r .period) (x .period) (omega arith)) (leads-weaker (r .period) (x .period) xs (omega arith) (a .0))) u)
 
 inside-more : (n : ℕ) (g : Option ℕ) → inside n g ≡ true → inside (n + 1) g ≡ true
 inside-more n None h = refl

@@ -56,6 +56,6 @@ pieces-cut (b ∷ s) h =
     ⊎-elim
     (λ (e : eqb b 32 ≡ true). simp e)
     (λ (e : eqb b 32 ≡ false).
-        let more : reach 32 s < length s = grind (arith, tells) in
-        cond-false (eqb b 32) _ _ e ∙ ap (onto b) (pieces-cut s more) ∙ simp (e, add-one))
+    let more : reach 32 s < length s = grind (arith, tells) in
+    cond-false (eqb b 32) _ _ e ∙ ap (onto b) (pieces-cut s more) ∙ simp (e, add-one))
     (cases-bool (eqb b 32))

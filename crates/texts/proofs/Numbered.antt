@@ -80,8 +80,8 @@ line-from-start (b ∷ s) (suc n) h =
     ap (λ ls. getD ls (suc n) []) cut
     ∙ line-from-start (drop (reach 10 (b ∷ s) + 1) (b ∷ s)) n more
     ∙ ap (λ (r : List ℕ). take (reach 10 r) r)
-      (drop-drop (extent (take n (lines (drop (reach 10 (b ∷ s) + 1) (b ∷ s))))) (reach 10 (b ∷ s) + 1) (b ∷ s)
-      ∙ ap (λ i. drop i (b ∷ s)) (sym (start-next (b ∷ s) n some)))
+    (drop-drop (extent (take n (lines (drop (reach 10 (b ∷ s) + 1) (b ∷ s))))) (reach 10 (b ∷ s) + 1) (b ∷ s)
+    ∙ ap (λ i. drop i (b ∷ s)) (sym (start-next (b ∷ s) n some)))
 
 -- the same, counted from 1
 pub numbered-from-start : (s : List ℕ) (n : ℕ) → hasLine n s ≡ true → getD ([] ∷ lines s) n [] ≡ lineFrom s (lineStart n s)

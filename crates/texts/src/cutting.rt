@@ -24,5 +24,9 @@ pub(crate) fn cut(bytes: &[u8], separator: u8) -> (&[u8], Option<&[u8]>)
     ensures back { λ r. ⌜ Cases (r .1) (reach separator (now (bytes .entry)) ≡ length (now (bytes .entry))) (λ t. (reach separator (now (bytes .entry)) < length (now (bytes .entry))) × (now t ≡ drop (reach separator (now (bytes .entry)) + 1) (now (bytes .entry)))) ⌝ }
 {
     let n = offset(bytes, separator);
-    if n < bytes.len() { (&bytes[0..n], Some(&bytes[n + 1..])) } else { (bytes, None) }
+    if n < bytes.len() {
+        (&bytes[0..n], Some(&bytes[n + 1..]))
+    } else {
+        (bytes, None)
+    }
 }

@@ -69,5 +69,9 @@ pub(crate) fn is_filled(piece: &[u8]) -> bool
 pub(crate) fn name_or_hyphen<'a>(piece: &'a [u8]) -> Field<'a>
     ensures { λ r. ⌜ shape r ≡ nameOrHyphen (now (piece .entry)) ⌝ }
 {
-    if is_same(piece, b"-") { Field::Hyphen } else { Field::Name(piece) }
+    if is_same(piece, b"-") {
+        Field::Hyphen
+    } else {
+        Field::Name(piece)
+    }
 }

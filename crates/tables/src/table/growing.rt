@@ -28,6 +28,7 @@ use std::alloc::Global;
 use texts::Ticks;
 
 const MOST_RESOURCES: usize = 32;
+
 const MOST_TASKS: usize = 64;
 
 // How many tasks come before a new one of that period: those of a lesser period, and those of the same.

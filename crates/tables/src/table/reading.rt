@@ -46,7 +46,12 @@ fn at_line(text: Text, line: usize, answer: Result<(), LineFault>) -> Result<(),
 
 impl Table {
     // The table with what one line more declares.
-    fn read_line(&mut self, heap: Global, text: Text, line: &[u8]) -> Result<Result<(), LineFault>, AllocError>
+    fn read_line(
+        &mut self,
+        heap: Global,
+        text: Text,
+        line: &[u8],
+    ) -> Result<Result<(), LineFault>, AllocError>
         ensures { λ r. ⌜ Grown r (listed (now (self .exit))) (readLine text (listed (now (self .entry))) (now (line .entry))) ⌝ }
     {
         match text {

@@ -8,8 +8,8 @@ use Rattle.texts.proofs.fields.is_filled.Needs.{then-b-lt33·by·then-b-lt33, 
 pub returns-then-b-lt33 : need.returns-then-b-lt33
 returns-then-b-lt33 c =
     elim (c .then-b-lt33 .came) [
-      then-b-lt33·by·then-b-lt33 w ↦ let e = all-visible-not (c .args .piece .now) _ (c .loop-b-test .taken) (inl (w .if-b-lt33 .taken)) in grind (arith, tells)
-    | then-b-lt33·by·else-b-lt33·then-b-gt126 w ↦ let e = all-visible-not (c .args .piece .now) _ (c .loop-b-test .taken) (inr (w .if-b-gt126 .taken)) in grind (arith, tells)
+      | then-b-lt33·by·then-b-lt33 w ↦ let e = all-visible-not (c .args .piece .now) _ (c .loop-b-test .taken) (inl (w .if-b-lt33 .taken)) in grind (arith, tells)
+      | then-b-lt33·by·else-b-lt33·then-b-gt126 w ↦ let e = all-visible-not (c .args .piece .now) _ (c .loop-b-test .taken) (inr (w .if-b-gt126 .taken)) in grind (arith, tells)
     ]
 
 pub loop-b-again : need.loop-b-again

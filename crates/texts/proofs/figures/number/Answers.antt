@@ -7,8 +7,8 @@ use Rattle.texts.proofs.figures.number.Needs.{then-d-lt48·by·then-d-lt48, th
 pub returns-then-d-lt48 : need.returns-then-d-lt48
 returns-then-d-lt48 c =
     elim (c .then-d-lt48 .came) [
-      then-d-lt48·by·then-d-lt48 w ↦ sym (digits-low _ (c .args .bytes .now) _ (c .loop-d-test .taken) (w .if-d-lt48 .taken)) ∙ c .loop-d .inv .1
-    | then-d-lt48·by·else-d-lt48·then-d-gt57 w ↦ sym (digits-high _ (c .args .bytes .now) _ (c .loop-d-test .taken) (w .if-d-gt57 .taken)) ∙ c .loop-d .inv .1
+      | then-d-lt48·by·then-d-lt48 w ↦ sym (digits-low _ (c .args .bytes .now) _ (c .loop-d-test .taken) (w .if-d-lt48 .taken)) ∙ c .loop-d .inv .1
+      | then-d-lt48·by·else-d-lt48·then-d-gt57 w ↦ sym (digits-high _ (c .args .bytes .now) _ (c .loop-d-test .taken) (w .if-d-gt57 .taken)) ∙ c .loop-d .inv .1
     ]
 
 pub mul-n : need.mul-n

@@ -9,8 +9,8 @@ pub returns-then-pieces-count : need.returns-then-pieces-count
 returns-then-pieces-count c =
     let n = length-map (c .args .pieces .now) bytes in
     elim (c .then-pieces-count .came) [
-      then-pieces-count·by·then-pieces-count w ↦ grind (arith, tells)
-    | then-pieces-count·by·else-pieces-count·then-not-all-filled w ↦ let e = w .if-not-all-filled .ensures tt in grind (arith, tells)
+      | then-pieces-count·by·then-pieces-count w ↦ grind (arith, tells)
+      | then-pieces-count·by·else-pieces-count·then-not-all-filled w ↦ let e = w .if-not-all-filled .ensures tt in grind (arith, tells)
     ]
 
 pub returns : need.returns

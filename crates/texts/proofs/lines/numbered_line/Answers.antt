@@ -13,7 +13,7 @@ returns-in-Some c =
     let n = c .args .number in
     let at = c .in-Some .ensures tt in
     let found : c .cut .result .0 .now ≡ lineFrom (c .args .text .now) (lineStart (c .args .number) (c .args .text .now)) =
-        c .cut .ensures .front ∙ ap (λ t. take (reach 10 t) t) (take-rest s (c .in-Some .start)) ∙ ap (lineFrom s) (at .1) in
+    c .cut .ensures .front ∙ ap (λ t. take (reach 10 t) t) (take-rest s (c .in-Some .start)) ∙ ap (lineFrom s) (at .1) in
     let begins : c .cut .result .0 .ptr ≡ beyond (c .args .text .ptr) (c .in-Some .start) = search needs in
     record {
       value = found ∙ sym (numbered-from-start s n (at .0));

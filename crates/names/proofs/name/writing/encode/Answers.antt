@@ -10,8 +10,8 @@ pub loop-byte-again : need.loop-byte-again
 loop-byte-again c =
     let e = encoded-more (c .args .name .now) (c .loop-byte .byte-index) (omega arith) in
     elim (c .match-entity .came) [
-      in-Some·in-Continue-extend-from-slice w ↦ cc (w .in-Some .ensures tt, w .in-Continue-extend-from-slice .ensures tt .items)
-    | in-None·in-Continue-push w ↦ cc (w .in-None .ensures tt, w .in-Continue-push .ensures tt .items)
+      | in-Some·in-Continue-extend-from-slice w ↦ cc (w .in-Some .ensures tt, w .in-Continue-extend-from-slice .ensures tt .items)
+      | in-None·in-Continue-push w ↦ cc (w .in-None .ensures tt, w .in-Continue-push .ensures tt .items)
     ]
 
 pub returns : need.returns

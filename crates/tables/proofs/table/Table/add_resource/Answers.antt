@@ -39,15 +39,14 @@ ghost-self c =
     let new = sound-resource (called (vec-items (c .args .self .now .resources))) (rows (vec-items (c .args .self .now .tasks))) (c .args .self .now .sound) (spelled (c .args .name)) (sym (c .if-has-resource .ensures tt)) in
     let P : List Name → Type 0 = λ l. sound (called l) (rows (vec-items (c .args .self .now .tasks))) ≡ true in
     let Q : ℕ → Type 0 = λ n. n ≤ 32 in
-    let few = c .args .self .now .few in
-    (
+    let few = c .args .self .now .few in (
       (
         subst Q (sym (c .push .ensures .len)) (cond-both (isOk (c .push .result)) _ _ Q (λ _. omega arith) (λ _. few .0)),
         few .1,
       ),
       (
         subst P (sym (c .push .ensures .items))
-        (cond-both (isOk (c .push .result)) _ _ P (λ _. ap (λ l. sound l (rows (vec-items (c .args .self .now .tasks)))) (map-push spelled (vec-items (c .args .self .now .resources)) (c .args .name)) ∙ new) (λ _. c .args .self .now .sound)),
+            (cond-both (isOk (c .push .result)) _ _ P (λ _. ap (λ l. sound l (rows (vec-items (c .args .self .now .tasks)))) (map-push spelled (vec-items (c .args .self .now .resources)) (c .args .name)) ∙ new) (λ _. c .args .self .now .sound)),
         tt,
       ),
     )

@@ -37,15 +37,14 @@ ghost-self c =
     let few = c .args .self .now .few in
     let room = c .pre .room in
     let long = length-map (vec-items (c .args .self .now .tasks)) rowOf in
-    let known = c .args .self .now .tasks .ok .0 in
-    (
+    let known = c .args .self .now .tasks .ok .0 in (
       (
         few .0,
         subst Q (sym (c .insert .ensures .len)) (cond-both (isOk (c .insert .result)) _ _ Q (λ _. omega arith) (λ _. few .1)),
       ),
       (
         subst P (sym (c .insert .ensures .items))
-        (cond-both (isOk (c .insert .result)) _ _ P (λ _. ap (sound (called (vec-items (c .args .self .now .resources)))) (grown c) ∙ new) (λ _. c .args .self .now .sound)),
+            (cond-both (isOk (c .insert .result)) _ _ P (λ _. ap (sound (called (vec-items (c .args .self .now .resources)))) (grown c) ∙ new) (λ _. c .args .self .now .sound)),
         tt,
       ),
     )

@@ -9,10 +9,10 @@ use Rattle.tables.proofs.table.usage.count_users.Needs.{then-is-user, else-is-
 pub loop-task-again : need.loop-task-again
 loop-task-again c =
     elim (c .if-is-user .came) [
-      then-is-user w ↦
+      | then-is-user w ↦
           let e = over-user (c .args .resource) (c .args .tasks .now) (c .loop-task .task-index) (c .task-item .result) (c .loop-task-test .taken) (c .task-item .is) (λ _. 1) (sym (w .if-is-user .ensures tt)) in
           (omega (arith, w .count-is), omega (arith, w .count-is))
-    | else-is-user w ↦
+      | else-is-user w ↦
           let e = over-other (c .args .resource) (c .args .tasks .now) (c .loop-task .task-index) (c .task-item .result) (c .loop-task-test .taken) (c .task-item .is) (λ _. 1) (sym (w .if-is-user .ensures tt)) in
           (omega (arith, w .count-is), omega (arith, w .count-is))
     ]

@@ -10,10 +10,10 @@ use Rattle.tables.proofs.table.usage.sum_shares.Needs.{then-is-user, else-is-u
 pub loop-task-again : need.loop-task-again
 loop-task-again c =
     elim (c .if-is-user .came) [
-      then-is-user w ↦
+      | then-is-user w ↦
           let e = over-user (c .args .resource) (c .args .tasks .now) (c .loop-task .task-index) (c .task-item .result) (c .loop-task-test .taken) (c .task-item .is) share (sym (w .if-is-user .ensures tt)) in
           (omega (arith, w .sum-is), omega (arith, w .sum-is))
-    | else-is-user w ↦
+      | else-is-user w ↦
           let e = over-other (c .args .resource) (c .args .tasks .now) (c .loop-task .task-index) (c .task-item .result) (c .loop-task-test .taken) (c .task-item .is) share (sym (w .if-is-user .ensures tt)) in
           (omega (arith, w .sum-is), omega (arith, w .sum-is))
     ]
