@@ -2,24 +2,44 @@
 ghost use mathlib.Core.Path.{_≡_};
 ghost use Rattle.std.specs.Of.Vec.{vec-items};
 ghost use Rattle.std.specs.Vec.{made};
-ghost use Rattle.inventories.specs.Inventories.{inventoryText};
+ghost use Rattle.tables.specs.Listed.{listed};
+ghost use Rattle.tables.specs.Reading.{readOf};
+ghost use Rattle.tables.specs.Told.{Told};
+ghost use Rattle.inventories.specs.Inventories.{TasksReadBack, inventoryText};
 use reports::refusal_text;
 use reports::table_text;
 use std::alloc::AllocError;
 use std::alloc::Global;
+use tables::ReadFault;
+use tables::Table;
 use tables::read;
 
-// The inventory of two texts, as the program `inventory` prints it.
-pub fn inventory(heap: Global, resources: &[u8], tasks: &[u8]) -> Result<Vec<u8>, AllocError>
-    ensures { λ r. ⌜ made r (λ text. vec-items text ≡ inventoryText (now (resources .entry)) (now (tasks .entry))) ⌝ }
+// What was read, as text.
+fn render(
+    heap: Global,
+    answer: Result<Table, ReadFault>,
+    resources: &[u8],
+    tasks: &[u8],
+) -> Result<Vec<u8>, AllocError>
+    requires { ⌜ Told answer listed (readOf (now resources) (now tasks)) ⌝ }
+    ensures value { λ r. ⌜ made r (λ text. vec-items text ≡ inventoryText (now (resources .entry)) (now (tasks .entry))) ⌝ }
+    ensures reads_back { λ r. ⌜ made r (λ text. TasksReadBack (now (resources .entry)) (now (tasks .entry)) (vec-items text)) ⌝ }
 {
-    match read(heap, resources, tasks) {
+    match answer {
         Ok(table) => table_text(heap, &table),
         Err(fault) => match fault.refusal() {
             Some(refusal) => refusal_text(heap, refusal, resources, tasks),
             None => Err(AllocError),
         },
     }
+}
+
+// The inventory of two texts, as the program `inventory` prints it.
+pub fn inventory(heap: Global, resources: &[u8], tasks: &[u8]) -> Result<Vec<u8>, AllocError>
+    ensures value { λ r. ⌜ made r (λ text. vec-items text ≡ inventoryText (now (resources .entry)) (now (tasks .entry))) ⌝ }
+    ensures reads_back { λ r. ⌜ made r (λ text. TasksReadBack (now (resources .entry)) (now (tasks .entry)) (vec-items text)) ⌝ }
+{
+    render(heap, read(heap, resources, tasks), resources, tasks)
 }
 
 #[cfg(test)]

@@ -16,7 +16,7 @@ use Rattle.std.proofs.shelf.Tests.{and-parts, and-from, or-parts, or-from, not-
 use Rattle.tables.specs.Rows.{Row, rowNames, has, placed, distinct, leads, rising, inside, known, sound}
 use Rattle.tables.proofs.Places.{different}
 
-same-swapped : (a b : List ℕ) → sameBytes a b ≡ false → sameBytes b a ≡ false
+pub same-swapped : (a b : List ℕ) → sameBytes a b ≡ false → sameBytes b a ≡ false
 same-swapped a b f = different b a (λ e. both-ways (sameBytes a b) f (sameBytes-decides a b .1 (sym e)))
 
 -- one name more at the end
@@ -91,21 +91,43 @@ known-placed n r (x ∷ xs) i k =
     (λ _. and-from _ _ (a .0) (known-placed n r xs i (a .1)))
     (λ _. and-from (inside n (r .resource)) _ i k)
 
+-- what is sound, part by part
+pub record Sound (rs : List (List ℕ)) (ts : List Row) : Type 0 where
+  pub apart : distinct rs ≡ true
+  pub unlike : distinct (rowNames ts) ≡ true
+  pub rises : rising ts ≡ true
+  pub known : known (length rs) ts ≡ true
+
+pub sound-parts : (rs : List (List ℕ)) (ts : List Row) → sound rs ts ≡ true → Sound rs ts
+sound-parts rs ts s =
+    let a = and-parts (distinct rs) (distinct (rowNames ts) && (rising ts && known (length rs) ts)) s in
+    let b = and-parts (distinct (rowNames ts)) (rising ts && known (length rs) ts) (a .1) in
+    let c = and-parts (rising ts) (known (length rs) ts) (b .1) in
+    record { apart = a .0; unlike = b .0; rises = c .0; known = c .1 }
+
+sound-from : (rs : List (List ℕ)) (ts : List Row) → Sound rs ts → sound rs ts ≡ true
+sound-from rs ts p = and-from _ _ (p .apart) (and-from _ _ (p .unlike) (and-from _ _ (p .rises) (p .known)))
+
 module _ (rs : List (List ℕ)) (ts : List Row) (s : sound rs ts ≡ true) where
-  -- the four facts of a sound table
-  parts : (distinct rs ≡ true) × (distinct (rowNames ts) ≡ true) × (rising ts ≡ true) × (known (length rs) ts ≡ true)
-  parts =
-      let a = and-parts (distinct rs) (distinct (rowNames ts) && (rising ts && known (length rs) ts)) s in
-      let b = and-parts (distinct (rowNames ts)) (rising ts && known (length rs) ts) (a .1) in
-      let c = and-parts (rising ts) (known (length rs) ts) (b .1) in
-      (a .0, b .0, c .0, c .1)
+  parts : Sound rs ts
+  parts = sound-parts rs ts s
 
   pub sound-resource : (n : List ℕ) → has n rs ≡ false → sound (rs ++ n ∷ []) ts ≡ true
   sound-resource n h =
-      and-from _ _ (distinct-push n rs (parts .0) h)
-      (and-from _ _ (parts .1) (and-from _ _ (parts .2) (ap (λ k. known k ts) (length-append rs (n ∷ [])) ∙ known-more (length rs) ts (parts .3))))
+      sound-from (rs ++ n ∷ []) ts
+      (record {
+        apart = distinct-push n rs (parts .apart) h;
+        unlike = parts .unlike;
+        rises = parts .rises;
+        known = ap (λ k. known k ts) (length-append rs (n ∷ [])) ∙ known-more (length rs) ts (parts .known);
+      })
 
   pub sound-task : (r : Row) → has (r .name) (rowNames ts) ≡ false → inside (length rs) (r .resource) ≡ true → sound rs (placed r ts) ≡ true
   sound-task r h i =
-      and-from _ _ (parts .0)
-      (and-from _ _ (distinct-placed r ts (parts .1) h) (and-from _ _ (rising-placed r ts (parts .2)) (known-placed (length rs) r ts i (parts .3))))
+      sound-from rs (placed r ts)
+      (record {
+        apart = parts .apart;
+        unlike = distinct-placed r ts (parts .unlike) h;
+        rises = rising-placed r ts (parts .rises);
+        known = known-placed (length rs) r ts i (parts .known);
+      })

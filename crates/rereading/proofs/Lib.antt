@@ -1,0 +1,10 @@
+pub mod Outcomes
+pub mod Visible
+pub mod Figures
+pub mod Cutting
+pub mod Ranges
+pub mod TaskLines
+pub mod Lengths
+pub mod Goodness
+pub mod Order
+pub mod Reading
