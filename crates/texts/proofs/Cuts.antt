@@ -9,7 +9,7 @@ use native.Mathlib.Numerals.{add-one}
 use lib.Dec.{eqb}
 use lib.ListN.{length, getD, take, drop}
 use Rattle.std.proofs.shelf.Lists.{at-drop-more, at-drop-all}
-use Rattle.std.proofs.shelf.Tests.{cond-true, cond-false, eq-eqb, ne-eqb, cases-bool}
+use Rattle.std.proofs.shelf.Tests.{cond-true, cond-false, eq-eqb, ne-eqb, cases-bool, cases-lt}
 use Rattle.std.proofs.shelf.Ways.{tells}
 use Rattle.texts.specs.Lines.{reach, lines, pieces, onto}
 
@@ -59,3 +59,11 @@ pieces-cut (b ∷ s) h =
     let more : reach 32 s < length s = grind (arith, tells) in
     cond-false (eqb b 32) _ _ e ∙ ap (onto b) (pieces-cut s more) ∙ simp (e, add-one))
     (cases-bool (eqb b 32))
+
+-- a line has a piece, be it empty
+pub pieces-some : (s : List ℕ) → 0 < length (pieces s)
+pieces-some s =
+    ⊎-elim
+    (λ more. omega (arith, ap length (pieces-cut s more)))
+    (λ last. omega (arith, ap length (pieces-last s (omega (arith, reach-within 32 s)))))
+    (cases-lt (reach 32 s) (length s))

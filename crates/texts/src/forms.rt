@@ -4,7 +4,7 @@ ghost use Prim.Native.Nat.{_<_};
 ghost use lib.Dec.{eqb};
 ghost use lib.ListN.{length};
 ghost use Rattle.std.specs.Of.Vec.{vec-items};
-ghost use Rattle.std.specs.Options.{mapped};
+ghost use Rattle.std.specs.Options.{Cases, mapped};
 ghost use Rattle.std.specs.Vec.{made};
 ghost use Rattle.std.specs.declared.option.Option.the-variants.{None, Some};
 ghost use Rattle.texts.specs.Forms.{allFilled, held, inForm, resourceFields, resourceForm, resourceShapes, taskFields, taskForm, taskShapes};
@@ -42,7 +42,9 @@ impl<'a> ResourceLine<'a> {
     pub fn split(heap: Global, line: &'a [u8]) -> Result<Option<ResourceLine<'a>>, AllocError>
         ensures { λ r. ⌜ made r (λ o. mapped resourceShapes o ≡ resourceForm (now (line .entry))) ⌝ }
     {
-        let pieces = split_fields(heap, line)?;
+        let Some(pieces) = split_fields(heap, line, 2)? else {
+            return Ok(None);
+        };
         if !in_form(pieces.as_slice(), 2, b"resource") {
             return Ok(None);
         }
@@ -56,7 +58,9 @@ impl<'a> TaskLine<'a> {
     pub fn split(heap: Global, line: &'a [u8]) -> Result<Option<TaskLine<'a>>, AllocError>
         ensures { λ r. ⌜ made r (λ o. mapped taskShapes o ≡ taskForm (now (line .entry))) ⌝ }
     {
-        let pieces = split_fields(heap, line)?;
+        let Some(pieces) = split_fields(heap, line, 7)? else {
+            return Ok(None);
+        };
         if !in_form(pieces.as_slice(), 7, b"task") {
             return Ok(None);
         }
@@ -64,20 +68,26 @@ impl<'a> TaskLine<'a> {
     }
 }
 
-// The pieces of a line between single spaces.
-fn split_fields<'a>(heap: Global, line: &'a [u8]) -> Result<Vec<&'a [u8]>, AllocError>
-    ensures { λ r. ⌜ made r (λ v. held (vec-items v) ≡ pieces (now (line .entry))) ⌝ }
+// The pieces of a line between single spaces, if there are `count`. It reads no further than it takes to tell.
+fn split_fields<'a>(
+    heap: Global,
+    line: &'a [u8],
+    count: usize,
+) -> Result<Option<Vec<&'a [u8]>>, AllocError>
+    ensures { λ r. ⌜ made r (λ o. Cases o (length (pieces (now (line .entry))) ≡ count → ⊥) (λ v. held (vec-items v) ≡ pieces (now (line .entry)))) ⌝ }
 {
-    let mut out = Vec::new(heap);
+    let mut out = Vec::with_capacity(heap, count)?;
     let mut rest = line;
-    loop {
+    while out.len() < count {
         let (front, after) = cut(rest, b' ');
         out.push(front)?;
         match after {
             Some(next) => rest = next,
-            None => return Ok(out),
+            None if out.len() == count => return Ok(Some(out)),
+            None => return Ok(None),
         }
     }
+    Ok(None)
 }
 
 fn all_filled(pieces: &[&[u8]]) -> bool
