@@ -2,6 +2,8 @@
 --
 --   reach        how many bytes come before the first separator
 --   lines        the lines of a text without their LF; the last may lack it, and an empty text has no line
+--   firstLine    the first line of a text, without its LF
+--   afterLine    the text after its first line
 --   pieces       what stands between the single spaces of a line
 --   hasLine      whether a text has a line of that number, counted from 1
 --   lineStart    the offset at which the line of that number begins
@@ -32,6 +34,13 @@ onto b (p ∷ ps) = (b ∷ p) ∷ ps
 abbrev pub lines : List ℕ → List (List ℕ)
 lines [] = []
 lines (b ∷ s) = cond (eqb b 10) ([] ∷ lines s) (onto b (lines s))
+
+-- what comes before the first LF, and what follows it
+abbrev pub firstLine : List ℕ → List ℕ
+firstLine text = take (reach 10 text) text
+
+abbrev pub afterLine : List ℕ → List ℕ
+afterLine text = drop (reach 10 text + 1) text
 
 abbrev pub pieces : List ℕ → List (List ℕ)
 pieces [] = [] ∷ []

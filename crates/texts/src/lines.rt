@@ -5,7 +5,7 @@ ghost use Prim.Native.Nat.{_+_, _<_, _≤_};
 ghost use denote.Ref.{ptr};
 ghost use lib.ListN.{drop, getD, length};
 ghost use Rattle.std.specs.Options.{Cases};
-ghost use Rattle.texts.specs.Lines.{StandsFrom, chosen, hasLine, lineAddress, lineAt, lineStart, lines, reach};
+ghost use Rattle.texts.specs.Lines.{afterLine, firstLine, StandsFrom, chosen, hasLine, lineAddress, lineAt, lineStart, lines, reach};
 use crate::cutting::cut;
 use crate::cutting::offset;
 use crate::place::Place;
@@ -76,6 +76,8 @@ pub fn line<'a>(resources: &'a [u8], tasks: &'a [u8], place: Place) -> &'a [u8]
 // The first line of a text that has one, and the text after it.
 fn first_line(text: &[u8]) -> (&[u8], &[u8])
     requires { ⌜ 0 < length (now text) ⌝ }
+    ensures first { λ r. ⌜ now (r .0) ≡ firstLine (now (text .entry)) ⌝ }
+    ensures rest { λ r. ⌜ now (r .1) ≡ afterLine (now (text .entry)) ⌝ }
     ensures cuts { λ r. ⌜ lines (now (text .entry)) ≡ now (r .0) ∷ lines (now (r .1)) ⌝ }
     ensures less { λ r. ⌜ length (now (r .1)) < length (now (text .entry)) ⌝ }
 {
@@ -89,7 +91,8 @@ fn first_line(text: &[u8]) -> (&[u8], &[u8])
 // The first line of a text, without its LF, and the text after it; none where the text is empty. It reads no further
 // than that line.
 pub fn next_line(text: &[u8]) -> Option<(&[u8], &[u8])>
-    ensures { λ r. ⌜ Cases r (now (text .entry) ≡ []) (λ u. (lines (now (text .entry)) ≡ now (u .0) ∷ lines (now (u .1))) × (length (now (u .1)) < length (now (text .entry)))) ⌝ }
+    ensures value { λ r. ⌜ Cases r (now (text .entry) ≡ []) (λ u. (now (u .0) ≡ firstLine (now (text .entry))) × (now (u .1) ≡ afterLine (now (text .entry)))) ⌝ }
+    ensures cuts { λ r. ⌜ Cases r (lines (now (text .entry)) ≡ []) (λ u. (lines (now (text .entry)) ≡ now (u .0) ∷ lines (now (u .1))) × (length (now (u .1)) < length (now (text .entry)))) ⌝ }
 {
     match text {
         [] => None,

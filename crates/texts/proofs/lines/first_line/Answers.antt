@@ -14,6 +14,8 @@ returns-in-Some c =
     let back = cases-at-some _ _ _ (c .in-Some .is) (c .cut .ensures .back) in
     let front = c .cut .ensures .front in
     record {
+      first = front;
+      rest = back .1;
       cuts = lines-cut (c .args .text .now) (c .pre) ∙ (λ i. sym front i ∷ lines (sym (back .1) i));
       less = omega (arith, simp length-drop at (ap length (back .1)));
     }
@@ -24,6 +26,8 @@ returns-in-None c =
     let front = c .cut .ensures .front in
     let s = c .args .text .now in
     record {
+      first = front;
+      rest = sym (drop-all (reach 10 (c .args .text .now) + 1) (c .args .text .now) (omega arith));
       cuts = lines-cut s (c .pre) ∙ (λ i. sym front i ∷ lines (drop-all (reach 10 s + 1) s (omega arith) i));
       less = c .pre;
     }
