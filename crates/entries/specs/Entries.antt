@@ -17,9 +17,9 @@ use Rattle.std.specs.declared.result.Result.{Result}
 use Rattle.std.specs.declared.result.Result.the-variants.{Ok, Err}
 use Rattle.names.specs.declared.fault.NameFault.{NameFault}
 use Rattle.names.specs.Names.{decoded}
-use Rattle.texts.specs.Fields.{Shape, word, figure, name, hyphen, pieceOf}
-use Rattle.texts.specs.Figures.{atMost, figureOf}
-use Rattle.texts.specs.Forms.{resourceForm, taskForm}
+use Rattle.fields.specs.Fields.{Shape, word, figure, name, hyphen, pieceOf}
+use Rattle.fields.specs.Figures.{atMost, figureOf}
+use Rattle.fields.specs.Forms.{resourceForm, taskForm}
 use Rattle.entries.specs.declared.fault.LineFault.{LineFault}
 use Rattle.entries.specs.declared.fault.LineFault.the-variants.{Form, Figure, Name}
 

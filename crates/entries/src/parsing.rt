@@ -1,22 +1,22 @@
 ghost use mathlib.Core.Path.{_≡_};
 ghost use Prim.Native.Nat.{_≤_};
 ghost use Rattle.std.specs.Vec.{made};
-ghost use Rattle.texts.specs.Fields.{shape};
-ghost use Rattle.texts.specs.Forms.{resourceShapes, taskShapes};
+ghost use Rattle.fields.specs.Fields.{shape};
+ghost use Rattle.fields.specs.Forms.{resourceShapes, taskShapes};
 ghost use Rattle.entries.specs.Entries.{entryOf, figureAt, guardAt, nameAt, resourceLine, taskLine};
 ghost use Rattle.entries.specs.Said.{guard, said, spelledAt};
 use crate::entry::Entry;
 use crate::fault::LineFault;
 use crate::fault::LineFaultFromName;
 use crate::fault::locate;
+use fields::Field;
+use fields::ResourceLine;
+use fields::TaskLine;
+use fields::Ticks;
 use names::Name;
 use names::NameBuffer;
 use std::alloc::AllocError;
 use std::alloc::Global;
-use texts::Field;
-use texts::ResourceLine;
-use texts::TaskLine;
-use texts::Ticks;
 
 fn name_at(number: usize, field: Field, room: NameBuffer) -> Result<Name, LineFault>
     ensures { λ r. ⌜ spelledAt r ≡ nameAt number (shape (field .entry)) ⌝ }

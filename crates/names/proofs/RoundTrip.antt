@@ -10,7 +10,8 @@ use lib.ListN.{length, getD, take, drop}
 use Rattle.std.proofs.shelf.Lists.{take-more, append-nil, append-assoc, length-append, drop-at}
 use Rattle.std.proofs.shelf.Tests.{cond-both, eqb-true, eqb-false, ne-eqb}
 use Rattle.std.specs.declared.result.Result.the-variants.{Ok, Err}
-use Rattle.names.specs.Names.{Entity, five, width, value, decodedFrom, admitted, decoded, written, encoded, Lawful}
+use Rattle.entities.specs.Entities.{Entity, five, width, value, written}
+use Rattle.names.specs.Names.{decodedFrom, admitted, decoded, encoded, Lawful}
 use Rattle.names.proofs.Steps.{decoded-more, admitted-lawful}
 
 -- s begins with what stands for b, and t follows

@@ -14,7 +14,8 @@ use Rattle.std.specs.declared.result.Result.{Result}
 use Rattle.std.specs.declared.result.Result.the-variants.{Ok, Err}
 use Rattle.names.specs.declared.fault.NameFault.{NameFault}
 use Rattle.names.specs.declared.fault.NameFault.the-variants.{Empty, BadEntity, TooLong, LoneHyphen}
-use Rattle.names.specs.Names.{Entity, width, value, decodedFrom, admitted, decodedBy, Lawful}
+use Rattle.entities.specs.Entities.{Entity, width, value}
+use Rattle.names.specs.Names.{decodedFrom, admitted, decodedBy, Lawful}
 
 module _ (t : List Entity) where
   -- what is skipped is dropped

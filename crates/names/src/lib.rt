@@ -1,5 +1,4 @@
 // Names as a text writes them, with entities, and as they are compared: decoded.
-mod entities;
 mod fault;
 mod name;
 

@@ -8,8 +8,8 @@ use lib.Dec.{eqb, leb}
 use lib.ListN.{length}
 use Rattle.std.proofs.shelf.Lists.{append-assoc, append-nil}
 use Rattle.std.proofs.shelf.Tests.{and-parts, cond-false, leb-true, ne-eqb}
-use Rattle.texts.specs.Fields.{visible, allVisible, filled}
-use Rattle.texts.specs.Forms.{allFilled}
+use Rattle.fields.specs.Fields.{visible, allVisible, filled}
+use Rattle.fields.specs.Forms.{allFilled}
 use Rattle.texts.specs.Lines.{lines, pieces, onto}
 use Rattle.reports.specs.Lines.{spacedOn, spaced, lineOf}
 

@@ -12,8 +12,8 @@ use Rattle.std.specs.declared.option.Option.{Option}
 use Rattle.std.specs.declared.option.Option.the-variants.{Some, None}
 use Rattle.std.proofs.shelf.Decimals.{decimal-by-steps, decimal-digit, decimal-some, first-decimal, length-decimal-le}
 use Rattle.std.proofs.shelf.Tests.{and-from, cases-bool, cases-eq, cond-true, cond-false, le-leb, or-left, or-right, not-from-false, ne-eqb, eq-eqb}
-use Rattle.texts.specs.Fields.{allVisible, filled}
-use Rattle.texts.specs.Figures.{isDigit, digits, slim, figureOf, atMost}
+use Rattle.fields.specs.Fields.{allVisible, filled}
+use Rattle.fields.specs.Figures.{isDigit, digits, slim, figureOf, atMost}
 use Rattle.rereading.proofs.Visible.{visible-append}
 
 digit-is : (d : ℕ) → d < 10 → isDigit (48 + d) ≡ true

@@ -15,9 +15,9 @@ use Rattle.std.specs.declared.result.Result.the-variants.{Ok, Err}
 use Rattle.std.proofs.shelf.Tests.{and-parts, cond-both, leb-true}
 use Rattle.names.specs.declared.fault.NameFault.{NameFault}
 use Rattle.names.specs.Names.{decoded}
-use Rattle.texts.specs.Fields.{Shape, figure, name, hyphen, allVisible, filled, nameOrHyphen}
-use Rattle.texts.specs.Figures.{atMost, figureOf}
-use Rattle.texts.specs.Forms.{allFilled, inForm, resourceFields, taskFields, resourceForm, taskForm}
+use Rattle.fields.specs.Fields.{Shape, figure, name, hyphen, allVisible, filled, nameOrHyphen}
+use Rattle.fields.specs.Figures.{atMost, figureOf}
+use Rattle.fields.specs.Forms.{allFilled, inForm, resourceFields, taskFields, resourceForm, taskForm}
 use Rattle.texts.specs.Lines.{pieces}
 use Rattle.entries.specs.declared.fault.LineFault.{LineFault}
 use Rattle.entries.specs.declared.fault.LineFault.the-variants.{Form, Figure, Name}

@@ -14,8 +14,8 @@ use Rattle.std.specs.declared.result.Result.the-variants.{Ok}
 use Rattle.std.proofs.shelf.Tests.{and-from, cond-true, cond-false}
 use Rattle.names.specs.Names.{encoded}
 use Rattle.names.proofs.RoundTrip.{round-trip}
-use Rattle.texts.specs.Fields.{figure, name, hyphen, filled, nameOrHyphen}
-use Rattle.texts.specs.Forms.{allFilled, inForm, taskFields, taskForm}
+use Rattle.fields.specs.Fields.{figure, name, hyphen, filled, nameOrHyphen}
+use Rattle.fields.specs.Forms.{allFilled, inForm, taskFields, taskForm}
 use Rattle.entries.specs.declared.fault.LineFault.{LineFault}
 use Rattle.entries.specs.Entries.{Entry, _then_, formed, named, nameAt, figured, figureAt, guardAt, entryOf, taskLine}
 use Rattle.tables.specs.Rows.{Row}

@@ -14,10 +14,11 @@ use Rattle.std.proofs.shelf.Lists.{length-append}
 use Rattle.std.proofs.shelf.Tests.{and-parts, and-from, cond-both, le-leb, leb-true, true≢false}
 use Rattle.names.specs.declared.fault.NameFault.{NameFault}
 use Rattle.names.specs.declared.fault.NameFault.the-variants.{Empty, BadEntity, TooLong, LoneHyphen}
-use Rattle.names.specs.Names.{Entity, five, tail, standsAt, entityWidth, entityValue, width, value, decodedFrom, admitted, decoded, writtenBy, written, encoded, Lawful}
+use Rattle.entities.specs.Entities.{Entity, five, tail, standsAt, entityWidth, entityValue, width, value, writtenBy, written}
+use Rattle.names.specs.Names.{decodedFrom, admitted, decoded, encoded, Lawful}
 use Rattle.names.proofs.RoundTrip.{round-trip}
 use Rattle.names.proofs.Steps.{decoded-lawful}
-use Rattle.texts.specs.Fields.{visible, allVisible, filled}
+use Rattle.fields.specs.Fields.{visible, allVisible, filled}
 use Rattle.tables.proofs.Places.{different}
 use Rattle.rereading.proofs.Outcomes.{never, passed}
 

@@ -2,9 +2,9 @@ ghost use mathlib.Core.Path.{_≡_};
 ghost use Prim.Native.Nat.{_+_, _≤_};
 ghost use lib.Dec.{ltb};
 ghost use Rattle.std.specs.Options.{isSome};
+use fields::Ticks;
 use names::Name;
 use names::NameDebug;
-use texts::Ticks;
 
 // A task of a table. Its lengths add up to at least 1 and at most its period, and it has a resource, told by its
 // place among the table's, exactly if it has a critical section.

@@ -6,12 +6,13 @@ ghost use Rattle.std.specs.Of.Vec.{vec-cap, vec-items};
 ghost use Rattle.std.specs.Results.{Cases};
 ghost use Rattle.std.specs.Vec.{made};
 ghost use Rattle.std.specs.declared.result.Result.the-variants.{Ok, Err};
-ghost use Rattle.names.specs.Names.{admitted, decoded, decodedFrom, five};
+ghost use Rattle.entities.specs.Entities.{five};
+ghost use Rattle.names.specs.Names.{admitted, decoded, decodedFrom};
 ghost use Rattle.names.specs.Spelled.{spelling};
-use crate::entities::unit;
 use crate::fault::NameFault;
 use crate::name::Name;
 use crate::name::NameBuffer;
+use entities::unit;
 use std::alloc::AllocError;
 use std::alloc::Global;
 
@@ -23,14 +24,14 @@ fn decode_into(field: &[u8], name: &mut Vec<u8>) -> Result<(), NameFault>
     let mut rest = field;
     while !rest.is_empty() {
         let at = field.len() - rest.len() + 1;
-        let Some((byte, after)) = unit(rest) else {
+        let Some(decoded) = unit(rest) else {
             return Err(NameFault::BadEntity(at));
         };
         if name.len() >= 32 {
             return Err(NameFault::TooLong(at));
         }
-        name.push_reserved(byte);
-        rest = after;
+        name.push_reserved(decoded.byte);
+        rest = decoded.rest;
     }
     Ok(())
 }

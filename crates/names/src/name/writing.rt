@@ -4,8 +4,8 @@ ghost use Rattle.std.specs.Vec.{made};
 ghost use Rattle.std.specs.declared.result.Result.the-variants.{Ok};
 ghost use Rattle.names.specs.Names.{Lawful, decoded, encoded};
 ghost use Rattle.names.specs.Spelled.{spelled};
-use crate::entities::entity;
 use crate::name::Name;
+use entities::entity;
 use std::alloc::AllocError;
 use std::alloc::Global;
 

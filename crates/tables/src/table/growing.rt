@@ -22,10 +22,10 @@ use crate::table::Table;
 use crate::task::Task;
 use entries::Entry;
 use entries::LineFault;
+use fields::Ticks;
 use names::Name;
 use std::alloc::AllocError;
 use std::alloc::Global;
-use texts::Ticks;
 
 const MOST_RESOURCES: usize = 32;
 

@@ -4,7 +4,7 @@ use native.Mathlib.Omega.{arith}
 use lib.ListN.{length}
 use borrow.Author.Tests.{true-eqb, false-eqb}
 use Rattle.std.specs.Of.Vec.{vec-items}
-use Rattle.names.specs.Names.{five, width}
+use Rattle.entities.specs.Entities.{five, width}
 use Rattle.names.proofs.Steps.{decoded-end, decoded-bad, decoded-long, decoded-more}
 use Rattle.names.proofs.name.decoding.decode_into.Needs as need
 
@@ -26,7 +26,7 @@ loop-rest-again c =
     let u = c .in-Some .ensures tt in
     let long = c .loop-rest .name .ok .0 in
     let more = decoded-more five (length (c .args .field .now) - length (c .loop-rest .rest .now) + 1) (vec-items (c .loop-rest .name)) (c .loop-rest .rest .now) (omega arith) (u .0) (omega arith) in
-    let next : length (c .args .field .now) - length (c .loop-rest .rest .now) + 1 + width five (c .loop-rest .rest .now) ≡ length (c .args .field .now) - length (c .in-Some .after .now) + 1 = omega arith in
+    let next : length (c .args .field .now) - length (c .loop-rest .rest .now) + 1 + width five (c .loop-rest .rest .now) ≡ length (c .args .field .now) - length (c .in-Some .decoded .rest .now) + 1 = omega arith in
     (omega arith, omega (arith, c .push-reserved .last .self .ok .0), omega arith, cc)
 
 pub returns : need.returns

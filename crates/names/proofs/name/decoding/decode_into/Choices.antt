@@ -3,7 +3,8 @@ use mathlib.Core.List.{[]}
 use Prim.Native.Nat.{_+_, _-_, _≤_}
 use lib.ListN.{length}
 use Rattle.std.specs.Of.Vec.{vec-items, vec-cap}
-use Rattle.names.specs.Names.{decodedFrom, five}
+use Rattle.entities.specs.Entities.{five}
+use Rattle.names.specs.Names.{decodedFrom}
 use Rattle.names.proofs.name.decoding.decode_into.Given as given
 
 -- what is left of the field completes the name so far to the whole field's
