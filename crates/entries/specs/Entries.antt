@@ -28,10 +28,12 @@ abbrev pub _then_ : {X Y E : Type 0} → Result X E → (X → Result Y E) → R
 _then_ (Ok x) next = next x
 _then_ (Err e) next = Err e
 
+-- a line that is not in form is at fault
 abbrev pub formed : Option (List Shape) → Result (List Shape) LineFault
 formed None = Err Form
 formed (Some fields) = Ok fields
 
+-- a bad name is told with its field
 abbrev pub named : ℕ → Result (List ℕ) NameFault → Result (List ℕ) LineFault
 named k (Ok n) = Ok n
 named k (Err e) = Err (Name k e)
@@ -39,6 +41,7 @@ named k (Err e) = Err (Name k e)
 abbrev pub nameAt : ℕ → Shape → Result (List ℕ) LineFault
 nameAt k field = named k (decoded (pieceOf field))
 
+-- a bad figure is told by its field
 abbrev pub figured : ℕ → Option ℕ → Result ℕ LineFault
 figured k (Some n) = Ok n
 figured k None = Err (Figure k)
@@ -46,6 +49,7 @@ figured k None = Err (Figure k)
 abbrev pub figureAt : ℕ → ℕ → Shape → Result ℕ LineFault
 figureAt k low field = figured k (atMost low 10000000 (figureOf (pieceOf field)))
 
+-- whether a field is `-` in the place of a resource
 abbrev pub isHyphen : Shape → Bool
 isHyphen hyphen = true
 isHyphen (word s) = false

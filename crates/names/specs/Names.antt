@@ -30,12 +30,14 @@ abbrev pub admitted : Result (List ℕ) NameFault → Result (List ℕ) NameFaul
 admitted (Ok n) = cond (eqb (length n) 0) (Err Empty) (cond (eqb (length n) 1 && eqb (getD n 0 0) 45) (Err LoneHyphen) (Ok n))
 admitted (Err e) = Err e
 
+-- the same for any table of entities
 abbrev pub decodedBy : List Entity → List ℕ → Result (List ℕ) NameFault
 decodedBy t field = admitted (decodedFrom t 0 1 [] field)
 
 abbrev pub decoded : List ℕ → Result (List ℕ) NameFault
 decoded field = decodedBy five field
 
+-- a name as it is written under a table of entities
 abbrev pub encodedBy : List Entity → List ℕ → List ℕ
 encodedBy t [] = []
 encodedBy t (b ∷ n) = writtenBy t b ++ encodedBy t n

@@ -10,6 +10,7 @@ use Rattle.names.specs.declared.name.Name.{Name}
 abbrev pub spelled : Name → List ℕ
 spelled n = vec-items (n .bytes)
 
+-- an answer's name as its bytes
 abbrev pub spelling : Result Name NameFault → Result (List ℕ) NameFault
 spelling (Ok n) = Ok (spelled n)
 spelling (Err e) = Err e

@@ -26,7 +26,7 @@ use Rattle.texts.specs.declared.place.Text.the-variants.{Resources, Tasks}
 use Rattle.texts.specs.Lines.{lineAt}
 use Rattle.tables.specs.declared.fault.Refusal.{Refusal}
 use Rattle.tables.specs.Rows.{Row, Listing}
-use Rattle.tables.specs.Usage.{ceiling, users, load}
+use Rattle.usage.specs.Usage.{ceiling, users, load}
 use Rattle.reports.specs.Lines.{lineOf, orDash, inTurn}
 
 abbrev pub resourceText : List Row → ℕ → List ℕ → List ℕ

@@ -18,6 +18,9 @@ use std::alloc::AllocError;
 use std::alloc::Global;
 use tables::Table;
 use tables::Task;
+use usage::ceiling;
+use usage::load;
+use usage::users;
 
 // The name of the resource at a place; none without a place, or where it is outside.
 fn guard(resources: &[Name], place: Option<usize>) -> Option<&Name>
@@ -53,9 +56,9 @@ fn push_resource(
 {
     out.extend_from_slice(b"resource")?;
     push_name(heap, out, name)?;
-    push_rank(heap, out, table.ceiling(place))?;
-    push_number(heap, out, table.users(place) as u64)?;
-    push_number(heap, out, table.load(place))?;
+    push_rank(heap, out, ceiling(table, place))?;
+    push_number(heap, out, users(table, place) as u64)?;
+    push_number(heap, out, load(table, place))?;
     out.push(b'\n')?;
     Ok(())
 }

@@ -1,7 +1,6 @@
 pub mod Rows
 pub mod Rowed
 pub mod Listed
-pub mod Usage
 pub mod Reading
 pub mod Grown
 pub mod Refusals

@@ -33,6 +33,7 @@ withResource t n =
     (cond (has n (t .resources)) (Err Twice)
     (Ok (record { resources = t .resources ++ n ∷ []; tasks = t .tasks })))
 
+-- a name that has no place is unknown
 abbrev pub orUnknown : Option ℕ → Result (Option ℕ) LineFault
 orUnknown None = Err Unknown
 orUnknown (Some i) = Ok (Some i)
@@ -47,6 +48,7 @@ abbrev pub matched : Option ℕ → ℕ → Bool
 matched None critical = eqb critical 0
 matched (Some i) critical = ltb 0 critical
 
+-- the lengths of the three parts together
 abbrev pub total : Entry → ℕ
 total e = e .before + e .critical + e .after
 
@@ -62,6 +64,7 @@ placeFor t e =
     (cond (has (e .name) (rowNames (t .tasks))) (Err Twice)
     (resourceFor (t .resources) (e .resource)))
 
+-- the table with a row in its place by period
 abbrev pub withTask : Listing → Row → Listing
 withTask t r = record { resources = t .resources; tasks = placed r (t .tasks) }
 
@@ -72,6 +75,7 @@ abbrev pub readLine : Text → Listing → List ℕ → Result Listing LineFault
 readLine Resources t line = resourceLine line then withResource t
 readLine Tasks t line = taskLine line then withEntry t
 
+-- a line's fault with its text and number
 abbrev pub atLine : {X : Type 0} → Text → ℕ → Result X LineFault → Result X ReadFault
 atLine text k (Ok x) = Ok x
 atLine text k (Err e) = Err (Line text k e)
@@ -80,6 +84,7 @@ abbrev pub readLines : Text → ℕ → Listing → List (List ℕ) → Result L
 readLines text k t [] = Ok t
 readLines text k t (l ∷ ls) = elim (readLine text t l) [ Ok u ↦ readLines text (k + 1) u ls | Err e ↦ Err (Line text k e) ]
 
+-- no resource and no task
 abbrev pub emptyTable : Listing
 emptyTable = record { resources = []; tasks = [] }
 

@@ -9,6 +9,7 @@ use Rattle.entries.specs.declared.fault.LineFault.{LineFault}
 use Rattle.tables.specs.declared.task.Task.{Task}
 use Rattle.tables.specs.Rows.{Row}
 
+-- a task as a row
 abbrev pub rowOf : Task → Row
 rowOf t =
     record {
@@ -23,9 +24,11 @@ rowOf t =
 abbrev pub rows : List Task → List Row
 rows ts = map rowOf ts
 
+-- names as their bytes
 abbrev pub called : List Name → List (List ℕ)
 called ns = map spelled ns
 
+-- an answer's task as a row
 abbrev pub rowed : Result Task LineFault → Result Row LineFault
 rowed (Ok t) = Ok (rowOf t)
 rowed (Err e) = Err e

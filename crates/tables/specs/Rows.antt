@@ -30,6 +30,7 @@ pub record Listing : Type 0 where
   pub resources : List (List ℕ)
   pub tasks : List Row
 
+-- the names of tasks
 abbrev pub rowNames : List Row → List (List ℕ)
 rowNames ts = map (λ r. r .name) ts
 
@@ -67,6 +68,7 @@ abbrev pub rising : List Row → Bool
 rising [] = true
 rising (x ∷ xs) = leads (x .period) xs && rising xs
 
+-- a place is one of the first n
 abbrev pub inside : ℕ → Option ℕ → Bool
 inside n None = true
 inside n (Some i) = ltb i n

@@ -11,7 +11,7 @@ use names::NameDebug;
 
 mod growing;
 pub(crate) mod reading;
-mod usage;
+mod rows;
 
 // The resources of a desk, in the order of their text, and its tasks, by rank. A table is empty or was filled by
 // `read`: no two resources and no two tasks have the same name, tasks stand by rising period, and a task's resource

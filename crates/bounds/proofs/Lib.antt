@@ -1,0 +1,4 @@
+pub mod Ceil
+pub mod Examples
+pub mod Leasts
+pub mod Takings
