@@ -16,8 +16,8 @@ pub trait Need {
 
 // The least number of ticks, from 1 to the limit, that is no less than what the part needs within it.
 pub fn least_bound<N: Need>(part: &N, limit: u64) -> Option<u64>
-    ensures value { result ≡ least (need part.now) (min limit longest) }
-    ensures exact { Exactly (need part.now) (min limit longest) result }
+    ensures value { result ≡ least (N.need part.now) (min limit longest) }
+    ensures exact { Exactly (N.need part.now) (min limit longest) result }
 {
     climb(part, limit.min(LONGEST_SPAN))
 }
@@ -25,8 +25,8 @@ pub fn least_bound<N: Need>(part: &N, limit: u64) -> Option<u64>
 // Goes from t straight to the need at t: since the need never falls, no t between the two meets it.
 fn climb<N: Need>(part: &N, limit: u64) -> Option<u64>
     requires { limit ≤ longest }
-    ensures value { result ≡ least (need part.now) limit }
-    ensures exact { Exactly (need part.now) limit result }
+    ensures value { result ≡ least (N.need part.now) limit }
+    ensures exact { Exactly (N.need part.now) limit result }
 {
     let mut t = 1;
     while t <= limit {

@@ -2,7 +2,7 @@
 ghost use Rattle.std.specs.Prelude.{◌≡◌};
 ghost use Rattle.boxes.specs.Boxes.{box_of, box_with, figure_part, rule_of, rule_part};
 
-use fields::{figure_within, is_same};
+use fields::{within, is_same};
 use texts::cut;
 
 // One of the supplied disciplines.
@@ -34,7 +34,7 @@ fn rule_of(word: &[u8]) -> Option<Rule>
 fn box_with(figure: &[u8], word: &[u8]) -> Option<BoxLine>
     ensures { result ≡ box_with figure.now word.now }
 {
-    let processors = figure_within(figure, 2, 16)?;
+    let processors = within(figure, 2, 16)?;
     let rule = rule_of(word)?;
     Some(BoxLine {
         processors: processors as u8,

@@ -5,7 +5,7 @@ ghost use Rattle.std.specs.Str.{bytes_eq};
 ghost use Rattle.fields.specs.Fields.{filled, name_or_hyphen, piece_of, shape};
 ghost use Rattle.fields.specs.Figures.{at_most, figure_of};
 
-use crate::figures::{LONGEST, Ticks, figure_within};
+use crate::figures::{LONGEST, Ticks, within};
 use names::{Name, NameBuffer, NameFault};
 
 // A field of a line: what it is by the line's form. It borrows the text until it is converted.
@@ -32,7 +32,7 @@ impl<'a> Field<'a> {
     pub fn figure(self, low: Ticks) -> Option<Ticks>
         ensures { result ≡ at_most low 10000000 (figure_of (piece_of (shape self.entry))) }
     {
-        figure_within(self.bytes(), low, LONGEST)
+        within(self.bytes(), low, LONGEST)
     }
 
     // The name that the field stands for, or the first fault of the field.

@@ -34,7 +34,7 @@ fn figure_of(bytes: &[u8]) -> Option<Ticks>
 }
 
 // The figure that the bytes write, if it is one from `low` to `high`.
-pub fn figure_within(bytes: &[u8], low: Ticks, high: Ticks) -> Option<Ticks>
+pub fn within(bytes: &[u8], low: Ticks, high: Ticks) -> Option<Ticks>
     ensures { result ≡ at_most low high (figure_of bytes.now) }
 {
     let n = figure_of(bytes)?;

@@ -4,5 +4,5 @@ mod figures;
 mod forms;
 
 pub use fields::{Field, is_same};
-pub use figures::{Ticks, figure_within};
+pub use figures::{Ticks, within};
 pub use forms::{ResourceLine, TaskLine};

@@ -5,8 +5,7 @@
 --   ceiling  the best rank among its users; none without users
 --   share    a task's critical length in millionths of its period, rounded up
 --   load     the sum of its users' shares
-use Rattle.std.specs.Prelude.{ℕ, ◌+◌, ◌*◌, Bool, false, cond, List, [], ◌∷◌, Some, None, Option, ◌==◌}
-use Rattle.bounds.specs.Sums.{ceil}
+use Rattle.std.specs.Prelude.{ℕ, ◌+◌, ◌*◌, ◌/◌, ◌%◌, min, Bool, false, cond, List, [], ◌∷◌, Some, None, Option, ◌==◌}
 use Rattle.tables.specs.Rows.{Row}
 
 -- whether that is the place of a task's resource
@@ -25,8 +24,12 @@ over_users f i (r ∷ rs) = cond (uses i r) (f r) 0 + over_users f i rs
 abbrev pub users : ℕ → List Row → ℕ
 users i rs = over_users (λ _. 1) i rs
 
+-- a divided by b, rounded up
+abbrev pub rounded_up : ℕ → ℕ → ℕ
+rounded_up a b = a / b + min 1 (a % b)
+
 abbrev pub share : Row → ℕ
-share r = ceil (1000000 * r.critical) r.period
+share r = rounded_up (1000000 * r.critical) r.period
 
 abbrev pub load : ℕ → List Row → ℕ
 load i rs = over_users share i rs

@@ -12,7 +12,7 @@ returns-then-end-text c = let none = ahead-last _ _ _ _ c.loop-start.invariant c
 pub loop-start-preserved : goal.loop-start-preserved
 loop-start-preserved c =
     let P : ℕ → Type 0 = λ e. Ahead c.args.text.now (c.args.number - 1) (e + 1) (c.loop-start.left - 1) in
-    subst P (sym c.line-end-end.ensures.value) (ahead_more _ _ _ _ c.loop-start.invariant c.loop-start-test.true c.if-left-eq0.false (omega arith))
+    subst P (sym c.line_end-end.ensures.value) (ahead_more _ _ _ _ c.loop-start.invariant c.loop-start-test.true c.if-left-eq0.false (omega arith))
 
 pub returns : goal.returns
 returns c = let none = ahead-over _ _ _ _ c.loop-start.invariant c.loop-start-test.false in grind (arith, nat_tests)
