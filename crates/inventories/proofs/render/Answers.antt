@@ -18,11 +18,11 @@ returns-in-Ok c =
     let P : Result Table ReadFault → Type 0 = λ a. Told a listed (read_of c.args.resources.now c.args.tasks.now) in
     let read : read_of c.args.resources.now c.args.tasks.now ≡ Ok (listed c.in-Ok.table) = subst P c.in-Ok.is c.requires in
     record {
-      value = IfOk-weaker c.table-text.result _ _ (λ text e. e ∙ ap (λ a. answer_text a c.args.resources.now c.args.tasks.now) (sym read)) c.table-text.ensures;
+      value = IfOk-weaker c.table_text.result _ _ (λ text e. e ∙ ap (λ a. answer_text a c.args.resources.now c.args.tasks.now) (sym read)) c.table_text.ensures;
       reads-back =
-          IfOk-weaker c.table-text.result _ _
+          IfOk-weaker c.table_text.result _ _
           (λ text e t h.
           let same : listed c.in-Ok.table ≡ t = cc in
           (e ∙ ap table_text same, reads-back c.args.resources.now c.args.tasks.now t h))
-          c.table-text.ensures;
+          c.table_text.ensures;
     }

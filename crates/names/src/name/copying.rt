@@ -9,7 +9,7 @@ impl Clone for Name {
     ghost is_clone = { λ n m. spelled m ≡ spelled n };
 
     fn clone(&self) -> Result<Name, AllocError> {
-        let bytes = Vec::from_slice(self.bytes.allocator(), self.as_bytes())?;
+        let bytes = Vec::from_slice(*self.bytes.allocator(), self.as_bytes())?;
         Ok(Name { bytes })
     }
 }

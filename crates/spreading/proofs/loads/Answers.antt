@@ -8,7 +8,7 @@ use Rattle.spreading.proofs.loads.Goals as goal
 pub loop-place-preserved : goal.loop-place-preserved
 loop-place-preserved c =
     let more = map-range_with_len_more (λ k. load k (listed c.args.table.now).tasks) 0 c.loop-place.place c.loop-place.place (omega arith) in
-    let items = c.in-ok-push.ensures.items in
+    let items = c.in_ok-push.ensures.items in
     cc
 
 pub returns : goal.returns

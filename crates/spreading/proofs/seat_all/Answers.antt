@@ -6,17 +6,17 @@ use Rattle.spreading.proofs.Rounds.{ready, rounds-more}
 use Rattle.spreading.proofs.Turns.{all_placed}
 use Rattle.spreading.proofs.seat_all.Goals as goal
 
-pub seat-next-requires : goal.seat-next-requires
-seat-next-requires c =
+pub seat_next-requires : goal.seat_next-requires
+seat_next-requires c =
     let fit = ready c.args.loads.now c.args.processors c.args.syncs c.loop-round.-round (omega arith) (omega arith) (omega arith) (omega arith) (λ i. omega (arith, c.type-inv.loads i)) in
     let Kept : Seating → Type 0 = Ready c.args.loads.now (c.args.processors - c.args.syncs) in
     let From : ℕ → Type 0 = λ first. Ready c.args.loads.now first (charted c.loop-round.chart) in
-    subst From (sym c.saturating-sub-first.ensures) (subst Kept (sym c.loop-round.invariant) fit)
+    subst From (sym c.saturating_sub-first.ensures) (subst Kept (sym c.loop-round.invariant) fit)
 
 pub loop-round-preserved : goal.loop-round-preserved
 loop-round-preserved c =
-    c.seat-next.ensures
-    ∙ (λ i. seat_next c.args.loads.now (c.saturating-sub-first.ensures i) (c.loop-round.invariant i))
+    c.seat_next.ensures
+    ∙ (λ i. seat_next c.args.loads.now (c.saturating_sub-first.ensures i) (c.loop-round.invariant i))
     ∙ sym (rounds-more c.args.loads.now c.args.processors c.args.syncs c.loop-round.-round)
 
 pub returns : goal.returns

@@ -4,14 +4,14 @@ use Rattle.tables.specs.Rowed.{row_of, rows}
 use Rattle.usage.proofs.ByTask.{first-here, first-later, first-none}
 use Rattle.usage.proofs.first_user.Goals as goal
 
-pub returns-then-is-user : goal.returns-then-is-user
-returns-then-is-user c =
-    sym (first-here c.args.resource c.args.tasks.now c.loop-rank.rank c.index-tasks-rank.result c.loop-rank-test.true c.index-tasks-rank.is (sym c.if-is-user.ensures))
+pub returns-then-is_user : goal.returns-then-is_user
+returns-then-is_user c =
+    sym (first-here c.args.resource c.args.tasks.now c.loop-rank.rank c.index-tasks-rank.result c.loop-rank-test.true c.index-tasks-rank.is (sym c.if-is_user.ensures))
     ∙ c.loop-rank.invariant
 
 pub loop-rank-preserved : goal.loop-rank-preserved
 loop-rank-preserved c =
-    sym (first-later c.args.resource c.args.tasks.now c.loop-rank.rank c.index-tasks-rank.result c.loop-rank-test.true c.index-tasks-rank.is (sym c.if-is-user.ensures))
+    sym (first-later c.args.resource c.args.tasks.now c.loop-rank.rank c.index-tasks-rank.result c.loop-rank-test.true c.index-tasks-rank.is (sym c.if-is_user.ensures))
     ∙ c.loop-rank.invariant
 
 pub returns : goal.returns

@@ -4,16 +4,16 @@ use Rattle.tables.specs.Rowed.{row_of, rows}
 use Rattle.usage.specs.Usage.{share}
 use Rattle.usage.proofs.ByTask.{over-user, over-other, over_none}
 use Rattle.usage.proofs.sum_shares.Goals as goal
-use Rattle.usage.proofs.sum_shares.Goals.{then-is-user, else-is-user}
+use Rattle.usage.proofs.sum_shares.Goals.{then-is_user, else-is_user}
 
 pub loop-task-preserved : goal.loop-task-preserved
 loop-task-preserved c =
-    elim c.if-is-user.branch [
-      | then-is-user w ↦
-          let e = over-user c.args.resource c.args.tasks.now c.loop-task.task-index c.task-item.result c.loop-task-test.true c.task-item.is share (sym w.if-is-user.ensures) in
+    elim c.if-is_user.branch [
+      | then-is_user w ↦
+          let e = over-user c.args.resource c.args.tasks.now c.loop-task.task-index c.task-item.result c.loop-task-test.true c.task-item.is share (sym w.if-is_user.ensures) in
           (omega (arith, w.sum-is), omega (arith, w.sum-is))
-      | else-is-user w ↦
-          let e = over-other c.args.resource c.args.tasks.now c.loop-task.task-index c.task-item.result c.loop-task-test.true c.task-item.is share (sym w.if-is-user.ensures) in
+      | else-is_user w ↦
+          let e = over-other c.args.resource c.args.tasks.now c.loop-task.task-index c.task-item.result c.loop-task-test.true c.task-item.is share (sym w.if-is_user.ensures) in
           (omega (arith, w.sum-is), omega (arith, w.sum-is))
     ]
 

@@ -11,7 +11,7 @@ greatest-more : (f : ℕ → ℕ) (i most x r : ℕ) → most ≡ greatest f i �
 greatest-more f i most x r e ex er = rw add-one (er ∙ ap (λ (n : ℕ). max n x) e ∙ ap (λ (n : ℕ). max (greatest f i) n) ex)
 
 pub loop-worse-preserved : goal.loop-worse-preserved
-loop-worse-preserved g c = greatest-more _ c.loop-worse.worse c.loop-worse.most c.blocking-by.result c.max-most.result c.loop-worse.invariant c.blocking-by.ensures c.max-most.ensures
+loop-worse-preserved g c = greatest-more _ c.loop-worse.worse c.loop-worse.most c.blocking_by.result c.max-most.result c.loop-worse.invariant c.blocking_by.ensures c.max-most.ensures
 
 pub returns : goal.returns
 returns g c =

@@ -8,7 +8,7 @@ use Rattle.analysis.specs.Seats.{Seats}
 use Rattle.analysis.proofs.Rows.{row_read}
 use Rattle.analysis.proofs.Terms.{terms-more, terms-same}
 use Rattle.analysis.proofs.needs.better_terms.Goals as goal
-use Rattle.analysis.proofs.needs.better_terms.Goals.{then-are-together+in-ok-push, else-are-together}
+use Rattle.analysis.proofs.needs.better_terms.Goals.{then-are_together+in_ok-push, else-are_together}
 
 pub offset-bounds-tasks-i : goal.offset-bounds-tasks-i
 offset-bounds-tasks-i c =
@@ -21,26 +21,26 @@ pub loop-i-preserved : goal.loop-i-preserved
 loop-i-preserved c =
     let seats : Seats = record { resources = c.args.sites.now; tasks = c.args.homes.now } in
     let rows : List Row = (listed c.args.table.now).tasks in
-    elim c.if-are-together.branch [
-      | then-are-together+in-ok-push w ↦
+    elim c.if-are_together.branch [
+      | then-are_together+in_ok-push w ↦
           let within : c.loop-i.i < length c.tasks-tasks.result.now =
           omega (arith, ap length c.tasks-tasks.ensures.value, length-map (vec_items c.args.table.now.tasks) row_of, c.requires)
           in
           let row : row_at (listed c.args.table.now).tasks c.loop-i.i ≡ row_of w.index-tasks-i.result =
           row_read (vec_items c.args.table.now.tasks) c.tasks-tasks.result.now c.tasks-tasks.ensures.value c.loop-i.i w.index-tasks-i.result within w.index-tasks-i.is
           in
-          let pushed : vec_items c.if-are-together.terms ≡ vec_items c.loop-i.terms ++ w.term-of.result ∷ [] =
-          ap vec_items w.terms-is ∙ w.in-ok-push.ensures.items
+          let pushed : vec_items c.if-are_together.terms ≡ vec_items c.loop-i.terms ++ w.term_of.result ∷ [] =
+          ap vec_items w.terms-is ∙ w.in_ok-push.ensures.items
           in (
             terms-more seats rows c.args.kind c.args.rank c.loop-i.i
-                (vec_items c.loop-i.terms) c.loop-i.invariant.0 w.term-of.result (vec_items c.if-are-together.terms)
-                (sym w.if-are-together.ensures) pushed (w.term-of.ensures.period ∙ sym (ap (λ (r : Row). r.period) row))
-                (w.term-of.ensures.length ∙ sym (ap (takes c.args.kind) row)),
-            omega (arith, ap vec_len w.terms-is, w.in-ok-push.ensures.len, c.loop-i.invariant.1),
+                (vec_items c.loop-i.terms) c.loop-i.invariant.0 w.term_of.result (vec_items c.if-are_together.terms)
+                (sym w.if-are_together.ensures) pushed (w.term_of.ensures.period ∙ sym (ap (λ (r : Row). r.period) row))
+                (w.term_of.ensures.length ∙ sym (ap (takes c.args.kind) row)),
+            omega (arith, ap vec_len w.terms-is, w.in_ok-push.ensures.len, c.loop-i.invariant.1),
           )
-      | else-are-together w ↦ (
+      | else-are_together w ↦ (
         terms-same seats rows c.args.kind c.args.rank c.loop-i.i (vec_items c.loop-i.terms) c.loop-i.invariant.0
-            (vec_items c.if-are-together.terms) (sym w.if-are-together.ensures) (ap vec_items w.terms-is),
+            (vec_items c.if-are_together.terms) (sym w.if-are_together.ensures) (ap vec_items w.terms-is),
         omega (arith, ap vec_len w.terms-is, c.loop-i.invariant.1),
       )
     ]

@@ -20,8 +20,8 @@ bounds-tasks-rank c = within c
 
 pub invariant-of-result : goal.invariant-of-result
 invariant-of-result c = (
-  omega (arith, c.once-of-base.ensures.bound),
-  (omega (arith, ap length c.tasks.ensures.value, length-map (vec_items c.args.table.now.tasks) row_of, c.requires, c.tasks.ensures.few, c.in-ok-terms.ensures.few), tt),
+  omega (arith, c.once_of-base.ensures.bound),
+  (omega (arith, ap length c.tasks.ensures.value, length-map (vec_items c.args.table.now.tasks) row_of, c.requires, c.tasks.ensures.few, c.in_ok-terms.ensures.few), tt),
 )
 
 pub returns : goal.returns
@@ -32,7 +32,7 @@ returns c t =
     let row : row_at (listed c.args.table.now).tasks c.args.rank ≡ row_of c.index-tasks-rank.result =
     row_read (vec_items c.args.table.now.tasks) c.tasks.result.now c.tasks.ensures.value c.args.rank c.index-tasks-rank.result within c.index-tasks-rank.is
     in
-    let own : c.once-of-base.result ≡ once c.args.kind c.args.blocking (row_at (listed c.args.table.now).tasks c.args.rank) =
-    c.once-of-base.ensures.value ∙ sym (ap (once c.args.kind c.args.blocking) row)
+    let own : c.once_of-base.result ≡ once c.args.kind c.args.blocking (row_at (listed c.args.table.now).tasks c.args.rank) =
+    c.once_of-base.ensures.value ∙ sym (ap (once c.args.kind c.args.blocking) row)
     in
-    omega (arith, own, c.in-ok-terms.ensures.taken t)
+    omega (arith, own, c.in_ok-terms.ensures.taken t)

@@ -5,7 +5,7 @@ use Rattle.analysis.proofs.places.length_at.Goals as goal
 
 pub returns-in-Some : goal.returns-in-Some
 returns-in-Some c =
-    c.length-of.ensures ∙ sym (ap (length_of c.args.kind) (row-lent (vec_items c.args.table.now.tasks) c.tasks.result.now c.tasks.ensures.value
+    c.length_of.ensures ∙ sym (ap (length_of c.args.kind) (row-lent (vec_items c.args.table.now.tasks) c.tasks.result.now c.tasks.ensures.value
     c.args.rank c.in-Some.task c.in-Some.ensures.lookup))
 
 pub returns-in-None : goal.returns-in-None

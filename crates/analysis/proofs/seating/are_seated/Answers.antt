@@ -14,12 +14,12 @@ counted f low high seats rows lent r e same = e ∙ ap (λ (n : ℕ). all_seated
 both : (a x b y : Bool) → a ≡ x → b ≡ y → (a && b) ≡ (x && y)
 both a x b y e f = ap (λ (z : Bool). z && b) e ∙ ap (λ (z : Bool). x && z) f
 
-pub returns-else-all-seated : goal.returns-else-all-seated
-returns-else-all-seated c =
-    c.if-all-seated.false
-    ∙ both false _ _ _ (counted spelled _ _ _ (vec_items c.args.table.now.resources) _ false c.if-all-seated.ensures c.resources.ensures) refl
+pub returns-else-all_seated : goal.returns-else-all_seated
+returns-else-all_seated c =
+    c.if-all_seated.false
+    ∙ both false _ _ _ (counted spelled _ _ _ (vec_items c.args.table.now.resources) _ false c.if-all_seated.ensures c.resources.ensures) refl
 
-pub returns-then-all-seated : goal.returns-then-all-seated
-returns-then-all-seated c =
-    both true _ _ _ (counted spelled _ _ _ (vec_items c.args.table.now.resources) _ true c.if-all-seated.ensures c.resources.ensures)
-    (counted row_of _ _ _ (vec_items c.args.table.now.tasks) _ _ c.all-seated-then-all-seated.ensures c.tasks.ensures.value)
+pub returns-then-all_seated : goal.returns-then-all_seated
+returns-then-all_seated c =
+    both true _ _ _ (counted spelled _ _ _ (vec_items c.args.table.now.resources) _ true c.if-all_seated.ensures c.resources.ensures)
+    (counted row_of _ _ _ (vec_items c.args.table.now.tasks) _ _ c.all_seated-then-all_seated.ensures c.tasks.ensures.value)

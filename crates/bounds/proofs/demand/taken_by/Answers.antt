@@ -11,8 +11,8 @@ module _ (c : goal.After-div_ceil) where
   under : c.div_ceil.result * c.args.term.now.length ≤ 2 * longest
   under = omega (arith, same, taken-under c.args.term.now c.args.t c.requires)
 
-pub overflow-mul-result : goal.overflow-mul-result
-overflow-mul-result c = omega (arith, under c)
+pub overflow_mul-result : goal.overflow_mul-result
+overflow_mul-result c = omega (arith, under c)
 
 pub returns : goal.returns
 returns c = record { value = same c; bound = under c }

@@ -10,11 +10,11 @@ returns-then-d-lt48 c =
       | then-d-lt48-via-else-d-lt48+then-d-gt57 w ↦ sym (digits-high _ c.args.bytes.now _ c.loop-d-test.true w.if-d-gt57.true) ∙ c.loop-d.invariant.1
     ]
 
-pub overflow-mul-n : goal.overflow-mul-n
-overflow-mul-n c = omega (arith, below-some _ _ (omega arith) c.loop-d.invariant.0)
+pub overflow_mul-n : goal.overflow_mul-n
+overflow_mul-n c = omega (arith, below-some _ _ (omega arith) c.loop-d.invariant.0)
 
-pub overflow-add-n : goal.overflow-add-n
-overflow-add-n c = omega (arith, below-some _ _ (omega arith) c.loop-d.invariant.0)
+pub overflow_add-n : goal.overflow_add-n
+overflow_add-n c = omega (arith, below-some _ _ (omega arith) c.loop-d.invariant.0)
 
 pub loop-d-preserved : goal.loop-d-preserved
 loop-d-preserved c = (

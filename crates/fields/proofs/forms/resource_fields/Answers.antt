@@ -4,8 +4,8 @@ use Rattle.std.proofs.lemmas.Bool.Decides.{nat_tests}
 use Rattle.fields.proofs.Held.{bytes, held_at}
 use Rattle.fields.proofs.forms.resource_fields.Goals as goal
 
-pub returns-in-default : goal.returns-in-default
-returns-in-default c = let n = length-map c.args.pieces.now bytes in grind (arith, nat_tests)
+pub returns-in_default : goal.returns-in_default
+returns-in_default c = let n = length-map c.args.pieces.now bytes in grind (arith, nat_tests)
 
 pub returns-in-len2 : goal.returns-in-len2
 returns-in-len2 c =

@@ -10,8 +10,8 @@ use Rattle.fields.proofs.forms.split_fields.Goals as goal
 pub loop-rest-preserved : goal.loop-rest-preserved
 loop-rest-preserved c =
     let back = MatchOption-at_some _ _ _ c.in-Some.is c.cut.ensures.back in (
-      omega (arith, c.in-ok-push.ensures.len),
-      split-more _ (vec_items c.push.new.self) _ c.loop-rest.rest.now c.in-Some.next.now c.args.line.now c.loop-rest.invariant.1 c.in-ok-push.ensures.items c.cut.ensures.front back.0 back.1,
+      omega (arith, c.in_ok-push.ensures.len),
+      split-more _ (vec_items c.push.new.self) _ c.loop-rest.rest.now c.in-Some.next.now c.args.line.now c.loop-rest.invariant.1 c.in_ok-push.ensures.items c.cut.ensures.front back.0 back.1,
     )
 
 pub returns : goal.returns
@@ -23,10 +23,10 @@ returns c = λ same.
     omega (arith, c.loop-rest.out.ok.0)
 
 pub returns-in-None : goal.returns-in-None
-returns-in-None c = split_done _ _ _ c.loop-rest.rest.now c.args.line.now c.loop-rest.invariant.1 c.in-ok-push.ensures.items c.cut.ensures.front (MatchOption-at_none _ _ c.in-None.is c.cut.ensures.back)
+returns-in-None c = split_done _ _ _ c.loop-rest.rest.now c.args.line.now c.loop-rest.invariant.1 c.in_ok-push.ensures.items c.cut.ensures.front (MatchOption-at_none _ _ c.in-None.is c.cut.ensures.back)
 
 pub returns-in-None-2 : goal.returns-in-None-2
 returns-in-None-2 c = λ same.
-    let all = ap length (split_done _ _ _ c.loop-rest.rest.now c.args.line.now c.loop-rest.invariant.1 c.in-ok-push.ensures.items c.cut.ensures.front (MatchOption-at_none _ _ c.in-None-2.is c.cut.ensures.back)) in
+    let all = ap length (split_done _ _ _ c.loop-rest.rest.now c.args.line.now c.loop-rest.invariant.1 c.in_ok-push.ensures.items c.cut.ensures.front (MatchOption-at_none _ _ c.in-None-2.is c.cut.ensures.back)) in
     let n = length-map (vec_items c.push.new.self) bytes in
     omega (arith, c.push.new.self.ok.0)

@@ -17,5 +17,5 @@ returns-in-len7 c =
     let e6 = held_at ps 6 in
     grind (arith, nat_tests)
 
-pub returns-in-default : goal.returns-in-default
-returns-in-default c = let n = length-map c.args.pieces.now bytes in grind (arith, nat_tests)
+pub returns-in_default : goal.returns-in_default
+returns-in_default c = let n = length-map c.args.pieces.now bytes in grind (arith, nat_tests)

@@ -6,7 +6,7 @@ use Rattle.listings.proofs.planning.push_ats.Goals as goal
 
 pub loop-place-preserved : goal.loop-place-preserved
 loop-place-preserved c =
-    turn_more (at_text c.args.sites.now) spelled _ _ _ _ _ c.loop-place-test.true c.name-item.is c.in-ok-push-at.ensures
+    turn_more (at_text c.args.sites.now) spelled _ _ _ _ _ c.loop-place-test.true c.name-item.is c.in_ok-push_at.ensures
     ∙ c.loop-place.invariant
 
 pub returns : goal.returns

@@ -7,6 +7,6 @@ pub returns : goal.returns
 returns c =
     record {
       fits = search rules;
-      seated = c.truncate.ensures.items ∙ ap (take c.len-rank.result) c.in-ok-push.ensures.items
+      seated = c.truncate.ensures.items ∙ ap (take c.len-rank.result) c.in_ok-push.ensures.items
           ∙ take_at (vec_items c.args.homes.now) (c.args.processor ∷ []) c.len-rank.result (sym (c.len-rank.ensures ∙ c.args.homes.now.ok.0));
     }

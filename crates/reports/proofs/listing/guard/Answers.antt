@@ -7,5 +7,5 @@ use Rattle.reports.proofs.listing.guard.Goals as goal
 
 pub returns : goal.returns
 returns c =
-    looked-up spelled c.args.resources.now c.in-ok-place.field-0 c.get.result c.get.ensures.lookup
-    ∙ ap (guard_of (called c.args.resources.now)) (sym c.in-ok-place.was)
+    looked-up spelled c.args.resources.now c.in_ok-place.field-0 c.get.result c.get.ensures.lookup
+    ∙ ap (guard_of (called c.args.resources.now)) (sym c.in_ok-place.was)

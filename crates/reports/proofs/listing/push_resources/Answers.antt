@@ -7,7 +7,7 @@ use Rattle.reports.proofs.listing.push_resources.Goals as goal
 
 pub loop-place-preserved : goal.loop-place-preserved
 loop-place-preserved c =
-    turn_more (resource_text (listed c.args.table.now).tasks) spelled _ _ _ _ _ c.loop-place-test.true c.name-item.is c.in-ok-push-resource.ensures
+    turn_more (resource_text (listed c.args.table.now).tasks) spelled _ _ _ _ _ c.loop-place-test.true c.name-item.is c.in_ok-push_resource.ensures
     ∙ c.loop-place.invariant
 
 pub returns : goal.returns

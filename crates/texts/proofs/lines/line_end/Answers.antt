@@ -4,8 +4,8 @@ use Rattle.texts.specs.Lines.{reach}
 use Rattle.texts.proofs.Cuts.{reach-within}
 use Rattle.texts.proofs.lines.line_end.Goals as goal
 
-pub overflow-add-result : goal.overflow-add-result
-overflow-add-result c =
+pub overflow_add-result : goal.overflow_add-result
+overflow_add-result c =
     let s = c.args.text.now in
     let e = c.offset.ensures.value ∙ ap (reach 10) (take_rest s c.args.start) in
     let h = reach-within 10 (drop c.args.start s) in

@@ -12,10 +12,10 @@ returns-in-Some c =
     let at = c.in-Some.ensures in
     let found : c.cut.result.0.now ≡ line_from c.args.text.now (line_start c.args.number c.args.text.now) =
     c.cut.ensures.front ∙ ap (λ t. take (reach 10 t) t) (take_rest s c.in-Some.start) ∙ ap (line_from s) at.1 in
-    let begins : c.cut.result.0.ptr ≡ beyond c.args.text.ptr c.in-Some.start = search rules in
+    let begins : c.cut.result.0.ref_ptr ≡ beyond c.args.text.ref_ptr c.in-Some.start = search rules in
     record {
       value = found ∙ sym (numbered-from-start s n at.0);
-      part = begins ∙ ap (beyond c.args.text.ptr) at.1 ∙ sym (cond-true (has_line n s) _ _ at.0);
+      part = begins ∙ ap (beyond c.args.text.ref_ptr) at.1 ∙ sym (cond-true (has_line n s) _ _ at.0);
       stands = found ∙ take_own (reach 10 (drop (line_start n s) s)) (drop (line_start n s) s) ∙ ap (λ l. take (length l) (drop (line_start n s) s)) (sym found);
     }
 

@@ -19,19 +19,19 @@ returns-in-Err g c =
     omega (arith, ap length c.tasks-rank-end.ensures.value, length-map (vec_items c.args.table.now.tasks) row_of)
     in
     ap (with_terms (terms_to may s rows (length rows)))
-    (late-stays may s rows c.loop-rank.rank c.blocking-term-term.result (vec_items c.loop-rank.bounds) c.in-Err.lateness (length rows)
-    c.blocking-term-term.ensures c.loop-rank.invariant.1 (sym c.in-Err.is ∙ c.in-ok-three.ensures) within)
+    (late-stays may s rows c.loop-rank.rank c.blocking_term-term.result (vec_items c.loop-rank.bounds) c.in-Err.lateness (length rows)
+    c.blocking_term-term.ensures c.loop-rank.invariant.1 (sym c.in-Err.is ∙ c.in_ok-three.ensures) within)
 
 pub loop-rank-preserved : goal.loop-rank-preserved
 loop-rank-preserved g c =
     let may : Relation = g.D.Discipline.may c.args.discipline.now in
     let s : Seats = record { resources = c.args.sites.now; tasks = c.args.homes.now } in
     let rows : List Row = (listed c.args.table.now).tasks in (
-      c.in-ok-push.ensures.items
-          ∙ terms-more may s rows c.loop-rank.rank c.blocking-term-term.result (vec_items c.loop-rank.blocking) c.blocking-term-term.ensures c.loop-rank.invariant.0,
-      bounds-more may s rows c.loop-rank.rank c.blocking-term-term.result (vec_items c.loop-rank.bounds) c.in-Ok.three
-          c.blocking-term-term.ensures c.loop-rank.invariant.1 (sym c.in-Ok.is ∙ c.in-ok-three.ensures)
-          ∙ ap Ok (sym c.in-ok-push-2.ensures.items),
+      c.in_ok-push.ensures.items
+          ∙ terms-more may s rows c.loop-rank.rank c.blocking_term-term.result (vec_items c.loop-rank.blocking) c.blocking_term-term.ensures c.loop-rank.invariant.0,
+      bounds-more may s rows c.loop-rank.rank c.blocking_term-term.result (vec_items c.loop-rank.bounds) c.in-Ok.three
+          c.blocking_term-term.ensures c.loop-rank.invariant.1 (sym c.in-Ok.is ∙ c.in_ok-three.ensures)
+          ∙ ap Ok (sym c.in_ok-push-2.ensures.items),
     )
 
 pub returns : goal.returns

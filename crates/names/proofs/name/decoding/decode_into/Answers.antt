@@ -3,10 +3,10 @@ use Rattle.entities.specs.Entities.{five, width}
 use Rattle.names.proofs.Steps.{decoded-end, decoded-bad, decoded-long, decoded-more}
 use Rattle.names.proofs.name.decoding.decode_into.Goals as goal
 
-pub returns-in-default : goal.returns-in-default
-returns-in-default c =
+pub returns-in_default : goal.returns-in_default
+returns-in_default c =
     let some = false-eqb _ 0 c.loop-rest-test.ensures in
-    sym c.loop-rest.invariant.3 ∙ decoded-bad five _ _ c.loop-rest.rest.now (omega arith) c.in-default.ensures
+    sym c.loop-rest.invariant.3 ∙ decoded-bad five _ _ c.loop-rest.rest.now (omega arith) c.in_default.ensures
 
 pub returns-then-len-ge32 : goal.returns-then-len-ge32
 returns-then-len-ge32 c =
@@ -22,7 +22,7 @@ loop-rest-preserved c =
     let long = c.loop-rest.name.ok.0 in
     let more = decoded-more five (length c.args.field.now - length c.loop-rest.rest.now + 1) (vec_items c.loop-rest.name) c.loop-rest.rest.now (omega arith) u.0 (omega arith) in
     let next : length c.args.field.now - length c.loop-rest.rest.now + 1 + width five c.loop-rest.rest.now ≡ length c.args.field.now - length c.in-Some.decoded.rest.now + 1 = omega arith in
-    (omega arith, omega (arith, c.push-reserved.new.self.ok.0), omega arith, cc)
+    (omega arith, omega (arith, c.push_reserved.new.self.ok.0), omega arith, cc)
 
 pub returns : goal.returns
 returns c =

@@ -16,12 +16,12 @@ same-plan m p q t u s r w syncs rows seats =
 
 pub invariant-of-result : goal.invariant-of-result
 invariant-of-result c =
-    let copied = c.in-ok-seating.ensures.cases in
+    let copied = c.in_ok-seating.ensures.cases in
     let P : Planned → Type 0 = Sound in
-    let sound = subst P (sym (same-plan c.args.processors _ _ _ _ _ _ c.args.weights copied.0 c.in-ok-table.ensures.cases copied.1)) c.requires in
+    let sound = subst P (sym (same-plan c.args.processors _ _ _ _ _ _ c.args.weights copied.0 c.in_ok-table.ensures.cases copied.1)) c.requires in
     ((c.args.weights.blocking.ok.0 ∙ sound.terms, c.args.weights.bounds.ok.0 ∙ sound.bounds), (sound.lawful, (sound.kept, tt)))
 
 pub returns : goal.returns
 returns c =
-    let copied = c.in-ok-seating.ensures.cases in
-    same-plan c.args.processors _ _ _ _ _ _ c.args.weights copied.0 c.in-ok-table.ensures.cases copied.1
+    let copied = c.in_ok-seating.ensures.cases in
+    same-plan c.args.processors _ _ _ _ _ _ c.args.weights copied.0 c.in_ok-table.ensures.cases copied.1

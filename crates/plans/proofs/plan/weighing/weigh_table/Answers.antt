@@ -11,12 +11,12 @@ use Rattle.plans.proofs.plan.weighing.weigh_table.Goals as goal
 pub fill-requires : goal.fill-requires
 fill-requires g c =
     let may = g.D.Discipline.may c.args.discipline.now in
-    let lent : Seats = record { resources = c.as-slice.result.now; tasks = c.as-slice-2.result.now } in
-    let same : lent ≡ seats_of c.args.seating.now = cc (c.as-slice.ensures.value, c.as-slice-2.ensures.value) in
+    let lent : Seats = record { resources = c.as_slice.result.now; tasks = c.as_slice-2.result.now } in
+    let same : lent ≡ seats_of c.args.seating.now = cc (c.as_slice.ensures.value, c.as_slice-2.ensures.value) in
     let weighed : weigh_of may c.args.processors c.args.seating.now.syncs (listed c.args.table.now) (seats_of c.args.seating.now)
-    ≡ Ok (planned_with c.args.processors c.args.seating.now.syncs (listed c.args.table.now) (seats_of c.args.seating.now) c.in-ok-weights.weights) =
+    ≡ Ok (planned_with c.args.processors c.args.seating.now.syncs (listed c.args.table.now) (seats_of c.args.seating.now) c.in_ok-weights.weights) =
     subst (λ (s : Seats). weigh_of may c.args.processors c.args.seating.now.syncs (listed c.args.table.now) s
-    ≡ Ok (planned_with c.args.processors c.args.seating.now.syncs (listed c.args.table.now) s c.in-ok-weights.weights)) same
-    c.in-ok-weights.ensures
+    ≡ Ok (planned_with c.args.processors c.args.seating.now.syncs (listed c.args.table.now) s c.in_ok-weights.weights)) same
+    c.in_ok-weights.ensures
     in
     weighed-sound may c.args.processors c.args.seating.now.syncs (listed c.args.table.now) (seats_of c.args.seating.now) _ weighed

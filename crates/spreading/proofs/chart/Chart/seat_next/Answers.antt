@@ -3,8 +3,8 @@ use Rattle.std.proofs.lemmas.List.{get_or_read_under, set_past}
 use Rattle.spreading.specs.Spreading.{heaviest, lightest}
 use Rattle.spreading.proofs.chart.Chart.seat_next.Goals as goal
 
-pub overflow-add-index-mut : goal.overflow-add-index-mut
-overflow-add-index-mut c =
+pub overflow_add-index-mut : goal.overflow_add-index-mut
+overflow_add-index-mut c =
     let long = c.args.self.now.sums.ok.0 in
     let sum = get_or_read_under (vec_items c.args.self.now.sums) c.lightest-processor.result _ _ 0 c.index-mut-then-processor-len.ensures.value c.if-processor-len.true (omega arith) in
     omega (arith, c.requires.small c.lightest-processor.result, c.type-inv.loads c.heaviest-resource.result)
@@ -13,8 +13,8 @@ overflow-add-index-mut c =
 pub returns-else-processor-len : goal.returns-else-processor-len
 returns-else-processor-len c =
     let long = c.args.self.now.sums.ok.0 in
-    let resource = c.heaviest-resource.ensures.value ∙ ap (heaviest c.args.loads.now) c.as-slice.ensures.value in
-    let processor = c.lightest-processor.ensures.value ∙ ap lightest c.as-slice-2.ensures.value in
+    let resource = c.heaviest-resource.ensures.value ∙ ap (heaviest c.args.loads.now) c.as_slice.ensures.value in
+    let processor = c.lightest-processor.ensures.value ∙ ap lightest c.as_slice-2.ensures.value in
     let none = set_past (vec_items c.args.self.now.sums) (lightest (vec_items c.args.self.now.sums)) (get_or (vec_items c.args.self.now.sums) (lightest (vec_items c.args.self.now.sums)) 0 + get_or c.args.loads.now (heaviest c.args.loads.now (vec_items c.args.self.now.seated)) 0) (omega arith) in
     λ i.
     record {

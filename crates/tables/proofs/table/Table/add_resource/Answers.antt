@@ -11,7 +11,7 @@ use Rattle.tables.proofs.table.Table.add_resource.Goals as goal
 use Rattle.tables.proofs.table.Table.add_resource.Goals.{In-ok-push}
 
 pushed : (c : In-ok-push) → called (vec_items c.push.new.self) ≡ called (vec_items c.args.self.now.resources) ++ spelled c.args.name ∷ []
-pushed c = ap called c.in-ok-push.ensures.items ∙ map_push spelled (vec_items c.args.self.now.resources) c.args.name
+pushed c = ap called c.in_ok-push.ensures.items ∙ map_push spelled (vec_items c.args.self.now.resources) c.args.name
 
 pub returns-then-len-ge-MOST-RESOURCES : goal.returns-then-len-ge-MOST-RESOURCES
 returns-then-len-ge-MOST-RESOURCES c =
@@ -19,17 +19,17 @@ returns-then-len-ge-MOST-RESOURCES c =
     let known = c.args.self.now.resources.ok.0 in
     grind (arith, nat_tests)
 
-pub returns-then-has-resource : goal.returns-then-has-resource
-returns-then-has-resource c =
+pub returns-then-has_resource : goal.returns-then-has_resource
+returns-then-has_resource c =
     let long = length-map (vec_items c.args.self.now.resources) spelled in
     let known = c.args.self.now.resources.ok.0 in
-    let there = c.if-has-resource.ensures in
+    let there = c.if-has_resource.ensures in
     grind (arith, nat_tests)
 
 -- whether or not memory was found for it
 pub invariant-of-self : goal.invariant-of-self
 invariant-of-self c =
-    let new = sound-resource (called (vec_items c.args.self.now.resources)) (rows (vec_items c.args.self.now.tasks)) c.args.self.now.sound (spelled c.args.name) (sym c.if-has-resource.ensures) in
+    let new = sound-resource (called (vec_items c.args.self.now.resources)) (rows (vec_items c.args.self.now.tasks)) c.args.self.now.sound (spelled c.args.name) (sym c.if-has_resource.ensures) in
     let P : List Name → Type 0 = λ l. sound (called l) (rows (vec_items c.args.self.now.tasks)) ≡ true in
     let Q : ℕ → Type 0 = λ n. n ≤ 32 in
     let few = c.args.self.now.few in (
@@ -48,6 +48,6 @@ pub returns : goal.returns
 returns c =
     let long = length-map (vec_items c.args.self.now.resources) spelled in
     let known = c.args.self.now.resources.ok.0 in
-    let new = c.if-has-resource.ensures in
+    let new = c.if-has_resource.ensures in
     let more = pushed (goal.at.returns c).In-ok-push in
     grind (arith, nat_tests)

@@ -7,5 +7,5 @@ use Rattle.tables.proofs.table.Table.has_resource.Goals as goal
 
 pub returns : goal.returns
 returns c =
-    c.is-some.ensures ∙ ap is_some c.find.ensures
-    ∙ (λ i. is_some (place_of (c.as-bytes.ensures i) (map spelled (c.as-slice.ensures.value i)))) ∙ has-place 0 (spelled c.args.name.now) (called (vec_items c.args.self.now.resources))
+    c.is_some.ensures ∙ ap is_some c.find.ensures
+    ∙ (λ i. is_some (place_of (c.as_bytes.ensures i) (map spelled (c.as_slice.ensures.value i)))) ∙ has-place 0 (spelled c.args.name.now) (called (vec_items c.args.self.now.resources))

@@ -8,6 +8,6 @@ use Rattle.tables.proofs.table.Table.has_task.Goals as goal
 
 pub returns : goal.returns
 returns c =
-    c.is-some.ensures ∙ ap is_some c.find.ensures
-    ∙ (λ i. is_some (place_of (c.as-bytes.ensures i) (map (λ (t : Task). spelled t.name) (c.as-slice.ensures.value i))))
+    c.is_some.ensures ∙ ap is_some c.find.ensures
+    ∙ (λ i. is_some (place_of (c.as_bytes.ensures i) (map (λ (t : Task). spelled t.name) (c.as_slice.ensures.value i))))
     ∙ ap (λ l. is_some (place_of (spelled c.args.name.now) l)) (sym (row-names (vec_items c.args.self.now.tasks))) ∙ has-place 0 (spelled c.args.name.now) (row_names (rows (vec_items c.args.self.now.tasks)))

@@ -11,14 +11,14 @@ use Rattle.tables.proofs.table.Table.insert.Goals as goal
 use Rattle.tables.proofs.table.Table.insert.Goals.{After-insert}
 
 -- the tasks with the new one, at the place that was found
-grown : (c : After-insert) → rows (insert (vec_items c.args.self.now.tasks) c.spot-of-place.result c.args.task) ≡ placed (row_of c.args.task) (rows (vec_items c.args.self.now.tasks))
+grown : (c : After-insert) → rows (insert (vec_items c.args.self.now.tasks) c.spot_of-place.result c.args.task) ≡ placed (row_of c.args.task) (rows (vec_items c.args.self.now.tasks))
 grown c =
-    ap (λ k. rows (insert (vec_items c.args.self.now.tasks) k c.args.task)) (c.spot-of-place.ensures ∙ ap (λ l. spot c.args.task.period (rows l)) c.as-slice.ensures.value)
+    ap (λ k. rows (insert (vec_items c.args.self.now.tasks) k c.args.task)) (c.spot_of-place.ensures ∙ ap (λ l. spot c.args.task.period (rows l)) c.as_slice.ensures.value)
     ∙ rows-inserted c.args.task (vec_items c.args.self.now.tasks)
 
 pub insert-requires : goal.insert-requires
 insert-requires c =
-    let at = c.spot-of-place.ensures ∙ ap (λ l. spot c.args.task.period (rows l)) c.as-slice.ensures.value in
+    let at = c.spot_of-place.ensures ∙ ap (λ l. spot c.args.task.period (rows l)) c.as_slice.ensures.value in
     omega (arith, spot-within c.args.task.period (rows (vec_items c.args.self.now.tasks)), length-map (vec_items c.args.self.now.tasks) row_of, c.args.self.now.tasks.ok.0)
 
 -- whether or not memory was found for it
@@ -45,4 +45,4 @@ invariant-of-self c =
 pub returns : goal.returns
 returns c =
     ap (λ l. record { resources = called (vec_items c.args.self.now.resources); tasks = l })
-    (ap rows c.in-ok-insert.ensures.items ∙ grown (goal.at.returns c).After-insert)
+    (ap rows c.in_ok-insert.ensures.items ∙ grown (goal.at.returns c).After-insert)

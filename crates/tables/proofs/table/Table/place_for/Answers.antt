@@ -11,20 +11,20 @@ returns-then-len-ge-MOST-TASKS c =
     let known = c.args.self.now.tasks.ok.0 in
     record { value = grind (arith, nat_tests); fits = tt }
 
-pub returns-then-has-task : goal.returns-then-has-task
-returns-then-has-task c =
+pub returns-then-has_task : goal.returns-then-has_task
+returns-then-has_task c =
     let long = length-map (vec_items c.args.self.now.tasks) row_of in
     let known = c.args.self.now.tasks.ok.0 in
-    let there = c.if-has-task.ensures in
+    let there = c.if-has_task.ensures in
     record { value = grind (arith, nat_tests); fits = tt }
 
 pub returns : goal.returns
 returns c =
     let long = length-map (vec_items c.args.self.now.tasks) row_of in
     let known = c.args.self.now.tasks.ok.0 in
-    let new = c.if-has-task.ensures in
+    let new = c.if-has_task.ensures in
     let few : length (rows (vec_items c.args.self.now.tasks)) < 64 = omega arith in
     record {
-      value = let found = c.resource-of.ensures.value in grind (arith, nat_tests);
-      fits = IfOk-weaker c.resource-of.result _ _ (λ g inside. (few, sym new, inside)) c.resource-of.ensures.known;
+      value = let found = c.resource_of.ensures.value in grind (arith, nat_tests);
+      fits = IfOk-weaker c.resource_of.result _ _ (λ g inside. (few, sym new, inside)) c.resource_of.ensures.known;
     }
