@@ -1,3 +1,4 @@
 pub mod Places
 pub mod Soundness
 pub mod Insertion
+mod Copies

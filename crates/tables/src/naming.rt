@@ -31,7 +31,7 @@ impl Named for Task {
 
 // The place of the first with that name.
 pub(crate) fn find<T: Named>(all: &[T], name: &[u8]) -> Option<usize>
-    ensures { result ≡ place_of name.now (map named all.now) }
+    ensures { result ≡ place_of name.now (map T.named all.now) }
 {
     for (i, one) in all.iter().enumerate() {
         if one.name_bytes() == name {

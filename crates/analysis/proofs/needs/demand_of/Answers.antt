@@ -18,8 +18,8 @@ offset-bounds-tasks-rank c = omega (arith, within c, c.tasks.ensures.few)
 pub bounds-tasks-rank : goal.bounds-tasks-rank
 bounds-tasks-rank c = within c
 
-pub invariant-of-result : goal.invariant-of-result
-invariant-of-result c = (
+pub invariant_of-result : goal.invariant_of-result
+invariant_of-result c = (
   omega (arith, c.once_of-base.ensures.bound),
   (omega (arith, ap length c.tasks.ensures.value, length-map (vec_items c.args.table.now.tasks) row_of, c.requires, c.tasks.ensures.few, c.in_ok-terms.ensures.few), tt),
 )

@@ -14,8 +14,8 @@ same-plan : (m p q : ℕ) (t u : Listing) (s r : Seats) (w : Weights) → p ≡ 
 same-plan m p q t u s r w syncs rows seats =
     ap (λ (n : ℕ). planned_with m n t s w) syncs ∙ ap (λ (l : Listing). planned_with m q l s w) rows ∙ ap (λ (x : Seats). planned_with m q u x w) seats
 
-pub invariant-of-result : goal.invariant-of-result
-invariant-of-result c =
+pub invariant_of-result : goal.invariant_of-result
+invariant_of-result c =
     let copied = c.in_ok-seating.ensures.cases in
     let P : Planned → Type 0 = Sound in
     let sound = subst P (sym (same-plan c.args.processors _ _ _ _ _ _ c.args.weights copied.0 c.in_ok-table.ensures.cases copied.1)) c.requires in

@@ -8,13 +8,13 @@ use Rattle.tables.specs.Rows.{sound}
 use Rattle.tables.specs.Rowed.{called, rows}
 use Rattle.tables.proofs.Soundness.{sound-resource}
 use Rattle.tables.proofs.table.Table.add_resource.Goals as goal
-use Rattle.tables.proofs.table.Table.add_resource.Goals.{In-ok-push}
+use Rattle.tables.proofs.table.Table.add_resource.Goals.{In_ok-push}
 
-pushed : (c : In-ok-push) → called (vec_items c.push.new.self) ≡ called (vec_items c.args.self.now.resources) ++ spelled c.args.name ∷ []
+pushed : (c : In_ok-push) → called (vec_items c.push.new.self) ≡ called (vec_items c.args.self.now.resources) ++ spelled c.args.name ∷ []
 pushed c = ap called c.in_ok-push.ensures.items ∙ map_push spelled (vec_items c.args.self.now.resources) c.args.name
 
-pub returns-then-len-ge-MOST-RESOURCES : goal.returns-then-len-ge-MOST-RESOURCES
-returns-then-len-ge-MOST-RESOURCES c =
+pub returns-then-len-ge-MOST_RESOURCES : goal.returns-then-len-ge-MOST_RESOURCES
+returns-then-len-ge-MOST_RESOURCES c =
     let long = length-map (vec_items c.args.self.now.resources) spelled in
     let known = c.args.self.now.resources.ok.0 in
     grind (arith, nat_tests)
@@ -27,27 +27,26 @@ returns-then-has_resource c =
     grind (arith, nat_tests)
 
 -- whether or not memory was found for it
-pub invariant-of-self : goal.invariant-of-self
-invariant-of-self c =
+pub invariant_of-self : goal.invariant_of-self
+invariant_of-self c =
     let new = sound-resource (called (vec_items c.args.self.now.resources)) (rows (vec_items c.args.self.now.tasks)) c.args.self.now.sound (spelled c.args.name) (sym c.if-has_resource.ensures) in
     let P : List Name → Type 0 = λ l. sound (called l) (rows (vec_items c.args.self.now.tasks)) ≡ true in
     let Q : ℕ → Type 0 = λ n. n ≤ 32 in
-    let few = c.args.self.now.few in (
-      (
+    let few = c.args.self.now.few in
+    record {
+      few = (
         subst Q (sym c.push.ensures.len) (cond_both (is_ok c.push.result) _ _ Q (λ _. omega arith) (λ _. few.0)),
         few.1,
-      ),
-      (
-        subst P (sym c.push.ensures.items)
-            (cond_both (is_ok c.push.result) _ _ P (λ _. ap (λ l. sound l (rows (vec_items c.args.self.now.tasks))) (map_push spelled (vec_items c.args.self.now.resources) c.args.name) ∙ new) (λ _. c.args.self.now.sound)),
-        tt,
-      ),
-    )
+      );
+      sound =
+          subst P (sym c.push.ensures.items)
+          (cond_both (is_ok c.push.result) _ _ P (λ _. ap (λ l. sound l (rows (vec_items c.args.self.now.tasks))) (map_push spelled (vec_items c.args.self.now.resources) c.args.name) ∙ new) (λ _. c.args.self.now.sound));
+    }
 
 pub returns : goal.returns
 returns c =
     let long = length-map (vec_items c.args.self.now.resources) spelled in
     let known = c.args.self.now.resources.ok.0 in
     let new = c.if-has_resource.ensures in
-    let more = pushed (goal.at.returns c).In-ok-push in
+    let more = pushed (goal.at.returns c).In_ok-push in
     grind (arith, nat_tests)

@@ -22,25 +22,24 @@ insert-requires c =
     omega (arith, spot-within c.args.task.period (rows (vec_items c.args.self.now.tasks)), length-map (vec_items c.args.self.now.tasks) row_of, c.args.self.now.tasks.ok.0)
 
 -- whether or not memory was found for it
-pub invariant-of-self : goal.invariant-of-self
-invariant-of-self c =
+pub invariant_of-self : goal.invariant_of-self
+invariant_of-self c =
     let new = sound-task (called (vec_items c.args.self.now.resources)) (rows (vec_items c.args.self.now.tasks)) c.args.self.now.sound (row_of c.args.task) c.requires.fresh c.requires.known in
     let P : List Task → Type 0 = λ l. sound (called (vec_items c.args.self.now.resources)) (rows l) ≡ true in
     let Q : ℕ → Type 0 = λ n. n ≤ 64 in
     let few = c.args.self.now.few in
     let room = c.requires.room in
     let long = length-map (vec_items c.args.self.now.tasks) row_of in
-    let known = c.args.self.now.tasks.ok.0 in (
-      (
+    let known = c.args.self.now.tasks.ok.0 in
+    record {
+      few = (
         few.0,
         subst Q (sym c.insert.ensures.len) (cond_both (is_ok c.insert.result) _ _ Q (λ _. omega arith) (λ _. few.1)),
-      ),
-      (
-        subst P (sym c.insert.ensures.items)
-            (cond_both (is_ok c.insert.result) _ _ P (λ _. ap (sound (called (vec_items c.args.self.now.resources))) (grown c) ∙ new) (λ _. c.args.self.now.sound)),
-        tt,
-      ),
-    )
+      );
+      sound =
+          subst P (sym c.insert.ensures.items)
+          (cond_both (is_ok c.insert.result) _ _ P (λ _. ap (sound (called (vec_items c.args.self.now.resources))) (grown c) ∙ new) (λ _. c.args.self.now.sound));
+    }
 
 pub returns : goal.returns
 returns c =

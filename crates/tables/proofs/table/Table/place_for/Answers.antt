@@ -5,8 +5,8 @@ use Rattle.std.proofs.lemmas.Bool.Decides.{nat_tests}
 use Rattle.tables.specs.Rowed.{row_of, rows}
 use Rattle.tables.proofs.table.Table.place_for.Goals as goal
 
-pub returns-then-len-ge-MOST-TASKS : goal.returns-then-len-ge-MOST-TASKS
-returns-then-len-ge-MOST-TASKS c =
+pub returns-then-len-ge-MOST_TASKS : goal.returns-then-len-ge-MOST_TASKS
+returns-then-len-ge-MOST_TASKS c =
     let long = length-map (vec_items c.args.self.now.tasks) row_of in
     let known = c.args.self.now.tasks.ok.0 in
     record { value = grind (arith, nat_tests); fits = tt }

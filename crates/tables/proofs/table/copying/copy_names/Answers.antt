@@ -1,6 +1,6 @@
-use Rattle.std.proofs.Common.{rules}
-use Rattle.std.proofs.MapClone.{Each-map}
+use Rattle.names.specs.Spelled.{spelled}
+use Rattle.tables.proofs.Copies.{map-copied}
 use Rattle.tables.proofs.table.copying.copy_names.Goals as goal
 
-pub returns : goal.returns
-returns c = search (rules, Each-map)
+pub returns-clause-value : goal.returns-clause-value
+returns-clause-value c = map-copied spelled c.args.names.now.items _ _ c.clone.result c.clone.ensures.cases
