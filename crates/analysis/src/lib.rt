@@ -1,4 +1,6 @@
 // How long each part of a task may take under a seating: needs, blocking terms, bounds, and which task is late.
+#![tactic(auto)]
+
 mod blocking;
 mod judging;
 mod lateness;

@@ -1,4 +1,6 @@
 // The least number of ticks that is no less than what a part needs within it, and the search for it.
+#![tactic(auto)]
+
 mod demand;
 mod search;
 mod term;

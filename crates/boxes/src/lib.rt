@@ -1,8 +1,10 @@
 // What a box line says: how many processors a box has, and which discipline rules its synchronisation processors.
+#![tactic(auto)]
+
 ghost use Rattle.std.specs.Prelude.{◌≡◌};
 ghost use Rattle.boxes.specs.Boxes.{box_of, box_with, figure_part, rule_of, rule_part};
 
-use fields::{within, is_same};
+use fields::{is_same, within};
 use texts::cut;
 
 // One of the supplied disciplines.

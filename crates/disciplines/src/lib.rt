@@ -1,5 +1,7 @@
 // Which critical section may hold a synchronisation processor against which, and which of the open sections such a
 // processor serves next.
+#![tactic(auto)]
+
 mod ceiling;
 mod discipline;
 mod naming;

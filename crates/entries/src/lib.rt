@@ -1,4 +1,6 @@
 // What one line of a text says: the name of a resource, or a task with its lengths, period and resource by name.
+#![tactic(auto)]
+
 mod entry;
 mod fault;
 mod parsing;

@@ -1,4 +1,6 @@
 // The fields of a line, and the figures and names that they write.
+#![tactic(auto)]
+
 mod fields;
 mod figures;
 mod forms;

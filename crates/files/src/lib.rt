@@ -1,4 +1,6 @@
 // The texts of a desk as files.
+#![tactic(auto)]
+
 ghost use Rattle.std.specs.Prelude.{◌≡◌, [], IfOk, Ok, Err};
 
 use std::alloc::Global;

@@ -1,4 +1,6 @@
 // What is understood of two texts, as text: the table that they declare, or why it is refused.
+#![tactic(auto)]
+
 ghost use Rattle.std.specs.Prelude.{◌≡◌, IfOk};
 ghost use Rattle.tables.specs.Listed.{listed};
 ghost use Rattle.tables.specs.Reading.{read_of};

@@ -1,4 +1,6 @@
 // Prints what was understood of the two texts in the current folder.
+#![tactic(auto)]
+
 use files::or_empty;
 use inventories::inventory;
 use std::io::Write;

@@ -1,4 +1,6 @@
 // What is told of a desk: its plan, or why it has none, as text.
+#![tactic(auto)]
+
 mod denial;
 mod denying;
 mod fault;

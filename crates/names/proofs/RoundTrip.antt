@@ -1,8 +1,8 @@
 -- What is written of a name reads back as that name.
-use Rattle.std.proofs.Common.{◌≡◌, ℕ, ◌+◌, ◌<◌, ◌≤◌, true, false, eqb, List, [], ◌∷◌, ◌++◌, length, get_or, take, drop, Ok, Err, codes, sym, refl, ap, ◌∙◌, subst, arith}
-use Rattle.std.proofs.lemmas.List.{take_more, append-nil, append_assoc, length-append, drop_at}
+use Rattle.std.proofs.Common.{◌≡◌, ℕ, ◌+◌, ◌<◌, ◌≤◌, false, eqb, List, [], ◌∷◌, ◌++◌, length, get_or, take, drop, Ok, codes, sym, refl, ap, ◌∙◌, arith}
+use Rattle.std.proofs.lemmas.List.{take_more, append-nil, append_assoc, length-append}
 use Rattle.std.proofs.lemmas.Bool.{cond_both, eqb-true, eqb-false, ne_eqb}
-use Rattle.entities.specs.Entities.{Entity, five, width, value, written}
+use Rattle.entities.specs.Entities.{five, width, value, written}
 use Rattle.names.specs.Names.{decoded_from, admitted, decoded, encoded, Lawful}
 use Rattle.names.proofs.Steps.{decoded-more, admitted-lawful}
 

@@ -1,4 +1,6 @@
 // Names as a text writes them, with entities, and as they are compared: decoded.
+#![tactic(auto)]
+
 mod fault;
 mod name;
 

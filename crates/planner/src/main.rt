@@ -1,5 +1,7 @@
 // Prints the plan that is found for the two texts in the current folder and the box that the first line of standard
 // input declares, or why there is none.
+#![tactic(auto)]
+
 use files::or_empty;
 use planning::plan;
 use std::io::{BufRead, BufReader, Write};

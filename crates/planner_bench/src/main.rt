@@ -1,5 +1,7 @@
 // Seeks seats for the two texts of the current folder, in a box of 16 processors under ceilings, as often as its argument
 // says, for a benchmark.
+#![tactic(auto)]
+
 use analysis::WeighFault;
 use anyhow::anyhow;
 use disciplines::Ceiling;

@@ -1,4 +1,6 @@
 // From a box line and two texts to what is printed: the plan that is found, or why there is none.
+#![tactic(auto)]
+
 ghost use Rattle.std.specs.Prelude.{◌≡◌, IfOk};
 ghost use Rattle.tables.specs.Listed.{listed};
 ghost use Rattle.listings.specs.Denials.{no_box, unread};

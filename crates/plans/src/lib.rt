@@ -1,4 +1,6 @@
 // A plan: a table that is seated, with the bounds that its tasks keep.
+#![tactic(auto)]
+
 mod plan;
 mod row;
 

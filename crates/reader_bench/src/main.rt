@@ -1,4 +1,6 @@
 // Reads the two texts of the current folder as often as its argument says, for a benchmark.
+#![tactic(auto)]
+
 use anyhow::anyhow;
 use std::{env, fs};
 use tables::{ReadFault, read};

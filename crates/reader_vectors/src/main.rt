@@ -1,4 +1,6 @@
 // Prints the inventory of each of many tables, to be compared with what another reader says of them.
+#![tactic(auto)]
+
 use inventories::inventory;
 use std::io::{ErrorKind, Write};
 use std::{fs, io};

@@ -1,4 +1,6 @@
 // Seats for the resources of a table on the synchronisation processors of a box.
+#![tactic(auto)]
+
 ghost use Rattle.std.specs.Prelude.{◌≡◌, IfOk};
 ghost use Rattle.tables.specs.Listed.{listed};
 ghost use Rattle.spreading.specs.Placed.{AllPlaced};

@@ -1,5 +1,5 @@
 -- The number of each refusal, and what it tells. No other place gives a refusal its number.
-use Rattle.std.specs.Prelude.{ℕ, List, Some, None, Ok, Err, Option, Result}
+use Rattle.std.specs.Prelude.{ℕ, Some, None, Option}
 use Rattle.names.specs.Faults.{fault_byte}
 use Rattle.entries.specs.declared.fault.LineFault.{LineFault}
 use Rattle.entries.specs.declared.fault.LineFault.TheVariants.{Form, Figure, Name, Full, Twice, Unknown, Unmatched, Overfull}

@@ -1,5 +1,5 @@
 -- What a call answers, unless memory was wanting.
-use Rattle.std.specs.Prelude.{◌≡◌, ℕ, Ok, Err, Result}
+use Rattle.std.specs.Prelude.{◌≡◌, Ok, Err, Result}
 use Rattle.tables.specs.declared.fault.ReadFault.{ReadFault}
 use Rattle.tables.specs.declared.fault.ReadFault.TheVariants.{Long, Line, Memory}
 

@@ -1,4 +1,6 @@
 // The table that two texts declare: its resources and its tasks, and what is worked out of them.
+#![tactic(auto)]
+
 mod fault;
 mod naming;
 mod table;

@@ -1,4 +1,6 @@
 // A text of a table as bytes, and its lines.
+#![tactic(auto)]
+
 mod cutting;
 mod lines;
 mod place;

@@ -1,4 +1,6 @@
 // What a task's bounds add up to if it sat elsewhere: a seating is tried and stays as it was.
+#![tactic(auto)]
+
 mod fault;
 mod moved;
 mod trying;

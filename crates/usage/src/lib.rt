@@ -1,4 +1,6 @@
 // What is worked out of a table for a resource, told by its place among the table's: its ceiling, its users, its load.
+#![tactic(auto)]
+
 ghost use Rattle.std.specs.Prelude.{◌≡◌, ◌*◌, ◌≤◌, length};
 ghost use Rattle.tables.specs.Listed.{listed};
 ghost use Rattle.tables.specs.Rowed.{row_of, rows};

@@ -1,4 +1,6 @@
 // Lines of text: the fields that a line is written of.
+#![tactic(auto)]
+
 mod fields;
 mod naming;
 

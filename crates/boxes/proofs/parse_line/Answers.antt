@@ -1,8 +1,8 @@
-use Rattle.std.proofs.Common.{◌≡◌, ℕ, ◌+◌, List, [], length, Some, None, Option, sym, refl, ap, ◌∙◌, subst, arith, Bor, MatchOption}
+use Rattle.std.proofs.Common.{◌≡◌, ℕ, ◌+◌, List, length, Some, None, Option, sym, refl, ap, ◌∙◌, subst, arith, Bor, MatchOption}
 use Rattle.std.proofs.lemmas.List.{drop_all}
 use Rattle.fields.specs.Figures.{at_most, figure_of}
 use Rattle.texts.specs.Lines.{reach}
-use Rattle.boxes.specs.Boxes.{box_with, figure_part, rule_of, rule_part, with_count}
+use Rattle.boxes.specs.Boxes.{box_with, figure_part, rule_part, with_count}
 use Rattle.boxes.proofs.parse_line.Goals as goal
 
 no-rule : (o : Option ℕ) → with_count o None ≡ None

@@ -3,8 +3,8 @@ use Rattle.bounds.specs.Interference.{interference}
 use Rattle.bounds.specs.Least.{least, longest}
 use Rattle.analysis.proofs.judging.least_ticks.Goals as goal
 
-pub overflow-cast-result : goal.overflow-cast-result
-overflow-cast-result c =
+pub overflow_cast-result : goal.overflow_cast-result
+overflow_cast-result c =
     let within = (c.in-Some.ensures.exact.some-least c.in-Some.ticks refl).meets.within in
     omega (arith, within, c.from.ensures)
 

@@ -10,8 +10,8 @@ use Rattle.analysis.proofs.Terms.{terms-more, terms-same}
 use Rattle.analysis.proofs.needs.better_terms.Goals as goal
 use Rattle.analysis.proofs.needs.better_terms.Goals.{then-are_together+in_ok-push, else-are_together}
 
-pub offset-bounds-tasks-i : goal.offset-bounds-tasks-i
-offset-bounds-tasks-i c =
+pub offset_bounds-tasks-i : goal.offset_bounds-tasks-i
+offset_bounds-tasks-i c =
     omega (arith, ap length c.tasks-tasks.ensures.value, length-map (vec_items c.args.table.now.tasks) row_of, c.requires, c.tasks-tasks.ensures.few)
 
 pub bounds-tasks-i : goal.bounds-tasks-i

@@ -12,17 +12,17 @@ module _ (c : goal.After-tasks) where
   within : c.args.rank < length c.tasks.result.now
   within = omega (arith, ap length c.tasks.ensures.value, length-map (vec_items c.args.table.now.tasks) row_of, c.requires)
 
-pub offset-bounds-tasks-rank : goal.offset-bounds-tasks-rank
-offset-bounds-tasks-rank c = omega (arith, within c, c.tasks.ensures.few)
+pub offset_bounds-tasks-rank : goal.offset_bounds-tasks-rank
+offset_bounds-tasks-rank c = omega (arith, within c, c.tasks.ensures.few)
 
 pub bounds-tasks-rank : goal.bounds-tasks-rank
 bounds-tasks-rank c = within c
 
 pub invariant_of-result : goal.invariant_of-result
-invariant_of-result c = (
-  omega (arith, c.once_of-base.ensures.bound),
-  (omega (arith, ap length c.tasks.ensures.value, length-map (vec_items c.args.table.now.tasks) row_of, c.requires, c.tasks.ensures.few, c.in_ok-terms.ensures.few), tt),
-)
+invariant_of-result c = record {
+  modest = omega (arith, c.once_of-base.ensures.bound);
+  few = omega (arith, ap length c.tasks.ensures.value, length-map (vec_items c.args.table.now.tasks) row_of, c.requires, c.tasks.ensures.few, c.in_ok-terms.ensures.few);
+}
 
 pub returns : goal.returns
 returns c t =

@@ -1,6 +1,5 @@
 use Rattle.std.proofs.Common.{map, length, sym, ap, arith, rules}
 use Rattle.std.proofs.lemmas.Bool.{lt-ltb}
-use Rattle.names.specs.declared.name.Name.{Name}
 use Rattle.names.specs.Spelled.{spelled}
 use Rattle.tables.specs.Rowed.{called}
 use Rattle.tables.proofs.Places.{place_inside}
