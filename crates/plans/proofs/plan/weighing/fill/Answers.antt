@@ -19,7 +19,7 @@ invariant_of-result c =
     let copied = c.in_ok-seating.ensures.cases in
     let P : Planned → Type 0 = Sound in
     let sound = subst P (sym (same-plan c.args.processors _ _ _ _ _ _ c.args.weights copied.0 c.in_ok-table.ensures.cases copied.1)) c.requires in
-    ((c.args.weights.blocking.ok.0 ∙ sound.terms, c.args.weights.bounds.ok.0 ∙ sound.bounds), (sound.lawful, (sound.kept, tt)))
+    record { complete = (c.args.weights.blocking.ok.0 ∙ sound.terms, c.args.weights.bounds.ok.0 ∙ sound.bounds); lawful = sound.lawful; kept = sound.kept }
 
 pub returns : goal.returns
 returns c =

@@ -3,11 +3,11 @@ use Rattle.std.proofs.lemmas.List.{get_or_read_under, set_past}
 use Rattle.spreading.specs.Spreading.{heaviest, lightest}
 use Rattle.spreading.proofs.chart.Chart.seat_next.Goals as goal
 
-pub overflow_add-index-mut : goal.overflow_add-index-mut
-overflow_add-index-mut c =
+pub overflow_add-index_mut : goal.overflow_add-index_mut
+overflow_add-index_mut c =
     let long = c.args.self.now.sums.ok.0 in
-    let sum = get_or_read_under (vec_items c.args.self.now.sums) c.lightest-processor.result _ _ 0 c.index-mut-then-processor-len.ensures.value c.if-processor-len.true (omega arith) in
-    omega (arith, c.requires.small c.lightest-processor.result, c.type-inv.loads c.heaviest-resource.result)
+    let sum = get_or_read_under (vec_items c.args.self.now.sums) c.lightest-processor.result _ _ 0 c.index_mut-then-processor-len.ensures.value c.if-processor-len.true (omega arith) in
+    omega (arith, c.requires.small c.lightest-processor.result, c.type_inv.loads c.heaviest-resource.result)
 
 -- without a synchronisation processor no sum changes
 pub returns-else-processor-len : goal.returns-else-processor-len
