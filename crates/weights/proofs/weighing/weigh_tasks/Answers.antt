@@ -27,11 +27,11 @@ loop-rank-preserved g c =
     let may : Relation = g.D.Discipline.may c.args.discipline.now in
     let s : Seats = record { resources = c.args.sites.now; tasks = c.args.homes.now } in
     let rows : List Row = (listed c.args.table.now).tasks in (
-      c.in_ok-push.ensures.items
+      c.in_ok-push-in-Ok.ensures.items
           ∙ terms-more may s rows c.loop-rank.rank c.blocking_term-term.result (vec_items c.loop-rank.blocking) c.blocking_term-term.ensures c.loop-rank.invariant.0,
       bounds-more may s rows c.loop-rank.rank c.blocking_term-term.result (vec_items c.loop-rank.bounds) c.in-Ok.three
           c.blocking_term-term.ensures c.loop-rank.invariant.1 (sym c.in-Ok.is ∙ c.in_ok-three.ensures)
-          ∙ ap Ok (sym c.in_ok-push-2.ensures.items),
+          ∙ ap Ok (sym c.in_ok-push-in-Ok-2.ensures.items),
     )
 
 pub returns : goal.returns
