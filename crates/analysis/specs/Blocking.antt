@@ -3,7 +3,7 @@
 --   section   a task's critical section as a discipline sees it
 --   blocks    whether a task's section ranks worse than another's, sits on its processor and may hold against it
 --   blocking  the greatest length of those; 0 if there is none
-use Rattle.std.specs.Prelude.{ℕ, zero, suc, ◌<◌, min, max, Bool, cond, ◌&&◌, List, length, Some, None, Option, nat_lt}
+use Rattle.std.specs.Prelude.{ℕ, zero, suc, min, max, Bool, cond, ◌&&◌, List, length, Some, None, Option, nat_lt}
 use Rattle.std.proofs.Common.{arith}
 use Rattle.disciplines.specs.declared.section.Section.{Section}
 use Rattle.disciplines.specs.Rules.{Relation}

@@ -5,7 +5,7 @@
 --   bound   the least number that does
 --   fits    whether three numbers meet the inequalities of a task's parts, and add up to at most its deadline
 --   judged  a task's three bounds; else its first part that has none, or the whole where they add up to too much
-use Rattle.std.specs.Prelude.{ℕ, ◌+◌, Bool, cond, ◌&&◌, List, Some, None, Ok, Err, Option, Result, ◌==◌, nat_le}
+use Rattle.std.specs.Prelude.{ℕ, Bool, cond, ◌&&◌, List, Some, None, Ok, Err, Option, Result, ◌==◌, nat_le}
 use Rattle.bounds.specs.Least.{least}
 use Rattle.tables.specs.Rows.{Row}
 use Rattle.analysis.specs.declared.lateness.Lateness.{Lateness}

@@ -9,7 +9,7 @@ use Rattle.bounds.specs.Sums.{ceil, sum_to}
 use Rattle.tables.specs.Rows.{Row}
 use Rattle.analysis.specs.declared.part.PartKind.{PartKind}
 use Rattle.analysis.specs.declared.part.PartKind.TheVariants.{Before, Critical, After}
-use Rattle.analysis.specs.Parts.{length_of, row_at, takes}
+use Rattle.analysis.specs.Parts.{row_at, takes}
 use Rattle.analysis.specs.Seats.{Seats, together}
 
 abbrev pub taken_by : Seats → List Row → PartKind → ℕ → ℕ → ℕ → ℕ

@@ -1,5 +1,5 @@
 -- What is found is accepted, with the same bounds.
-use Rattle.std.specs.Prelude.{◌≡◌, ℕ, ◌+◌, ◌<◌, true, List, length, take, Ok, slice_index_or}
+use Rattle.std.specs.Prelude.{◌≡◌, ℕ, ◌+◌, ◌<◌, true, length, take, Ok, slice_index_or}
 use Rattle.disciplines.specs.Rules.{Relation}
 use Rattle.tables.specs.Rows.{Listing}
 use Rattle.analysis.specs.Judging.{judged}

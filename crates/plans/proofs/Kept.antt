@@ -3,7 +3,7 @@
 --   keeps-at      its bounds fit
 --   total-within  so their sum is at most its deadline
 --   totals-short  and that is at most the longest time that a figure writes
-use Rattle.std.proofs.Common.{◌≡◌, ℕ, zero, suc, ◌<◌, ◌≤◌, Bool, true, ◌&&◌, leb, List, [], ◌∷◌, length, get_or, ap, ◌∙◌, ⊎_elim, arith}
+use Rattle.std.proofs.Common.{◌≡◌, ℕ, zero, suc, ◌<◌, ◌≤◌, Bool, true, leb, List, [], ◌∷◌, length, get_or, ap, ◌∙◌, ⊎_elim, arith}
 use Rattle.std.proofs.lemmas.Bool.{and_parts, cases_eq, leb-true}
 use Rattle.tables.specs.declared.task.Task.{Task}
 use Rattle.tables.specs.Rowed.{rows}

@@ -1,6 +1,6 @@
 -- What weighing answers is sound: `weighed-sound`.
-use Rattle.std.proofs.Common.{◌≡◌, ℕ, ◌≤◌, Bool, true, false, cond, not, eqb, leb, List, length, Ok, Err, Result, sym, ap, ◌∙◌, subst, ⊎_elim, arith}
-use Rattle.std.proofs.lemmas.Bool.{and_parts, cases_Bool, cond-false, cond-true, leb-true, ne_eqb, not_from_false, not_from_true}
+use Rattle.std.proofs.Common.{◌≡◌, ℕ, Bool, true, false, cond, not, eqb, leb, List, length, Ok, Err, Result, ◌∙◌, subst, arith}
+use Rattle.std.proofs.lemmas.Bool.{and_parts, cond-false, leb-true, ne_eqb}
 use Rattle.disciplines.specs.Rules.{Relation}
 use Rattle.tables.specs.Rows.{Listing}
 use Rattle.analysis.specs.declared.lateness.WeighFault.{WeighFault}

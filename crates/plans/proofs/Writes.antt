@@ -3,8 +3,8 @@
 --   four        four writes one after another
 --   sofar       the row with the figures of the first i tasks
 --   sofar-more  one task more
-use Rattle.std.proofs.Common.{◌≡◌, ℕ, zero, suc, ◌+◌, ◌*◌, ◌<◌, ◌≤◌, List, [], ◌∷◌, ◌++◌, length, get_or, take, drop, set, sym, refl, ap, ◌∙◌, arith}
-use Rattle.std.proofs.lemmas.List.{set_at, append_assoc, append-nil, length_push, length-append, take_more, drop_more, take_all, length-take-le}
+use Rattle.std.proofs.Common.{◌≡◌, ℕ, ◌+◌, ◌*◌, ◌<◌, ◌≤◌, List, [], ◌∷◌, ◌++◌, length, get_or, take, drop, set, sym, refl, ap, ◌∙◌, arith}
+use Rattle.std.proofs.lemmas.List.{set_at, append_assoc, length_push, take_more, drop_more, length-take-le}
 use Rattle.analysis.specs.declared.part.Bounds.{Bounds}
 use Rattle.plans.specs.Figures.{figures}
 

@@ -8,7 +8,6 @@ use Rattle.std.proofs.lemmas.Bool.{cases_eq}
 use Rattle.disciplines.specs.Rules.{Relation}
 use Rattle.tables.specs.Rows.{Row}
 use Rattle.analysis.specs.declared.lateness.Lateness.{Lateness}
-use Rattle.analysis.specs.declared.lateness.WeighFault.{WeighFault}
 use Rattle.analysis.specs.declared.lateness.WeighFault.TheVariants.{Late}
 use Rattle.analysis.specs.declared.part.Bounds.{Bounds}
 use Rattle.analysis.specs.Blocking.{blocking}

@@ -19,7 +19,7 @@ returns-in-Ok c =
     let read : read_of c.args.resources.now c.args.tasks.now ≡ Ok (listed c.in-Ok.table) = subst P c.in-Ok.is c.requires in
     record {
       value = IfOk-weaker c.table_text.result _ _ (λ text e. e ∙ ap (λ a. answer_text a c.args.resources.now c.args.tasks.now) (sym read)) c.table_text.ensures;
-      reads-back =
+      reads_back =
           IfOk-weaker c.table_text.result _ _
           (λ text e t h.
           let same : listed c.in-Ok.table ≡ t = cc in

@@ -2,7 +2,7 @@ use Rattle.std.proofs.Common.{◌≡◌, ℕ, min, ap, ◌∙◌}
 use Rattle.disciplines.proofs.Sections.{section-same}
 use Rattle.tables.specs.Listed.{listed}
 use Rattle.usage.specs.Usage.{ceiling}
-use Rattle.analysis.specs.Blocking.{or_zero, section}
+use Rattle.analysis.specs.Blocking.{or_zero}
 use Rattle.analysis.specs.Parts.{row_at}
 use Rattle.analysis.proofs.blocking.section_of.Goals as goal
 

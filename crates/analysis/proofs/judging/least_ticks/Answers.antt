@@ -1,4 +1,4 @@
-use Rattle.std.proofs.Common.{◌≡◌, ℕ, ◌+◌, min, vec_items, refl, ap, ◌∙◌, arith}
+use Rattle.std.proofs.Common.{◌≡◌, ◌+◌, min, vec_items, refl, ap, ◌∙◌, arith}
 use Rattle.bounds.specs.Interference.{interference}
 use Rattle.bounds.specs.Least.{least, longest}
 use Rattle.analysis.proofs.judging.least_ticks.Goals as goal

@@ -1,6 +1,5 @@
-use Rattle.std.proofs.Common.{◌≡◌, ◌∙◌}
+use Rattle.std.proofs.Common.{◌∙◌}
 use Rattle.tables.specs.Listed.{listed}
-use Rattle.analysis.specs.Parts.{length_of, row_at}
 use Rattle.analysis.proofs.Rows.{row-there}
 use Rattle.analysis.proofs.Terms.{bound-is}
 use Rattle.analysis.proofs.judging.search_bound.Goals as goal

@@ -1,6 +1,5 @@
-use Rattle.std.proofs.Common.{◌≡◌, ℕ, ◌+◌, ◌<◌, length, vec_items, sym, ap, ◌∙◌, arith}
+use Rattle.std.proofs.Common.{◌≡◌, ◌<◌, length, vec_items, sym, ap, ◌∙◌, arith}
 use Rattle.std.proofs.lemmas.List.{length-map}
-use Rattle.bounds.specs.Interference.{interference}
 use Rattle.tables.specs.Listed.{listed}
 use Rattle.tables.specs.Rowed.{row_of}
 use Rattle.analysis.specs.Needs.{once}

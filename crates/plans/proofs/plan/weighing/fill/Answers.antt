@@ -1,8 +1,6 @@
 use Rattle.std.proofs.Common.{◌≡◌, ℕ, sym, ap, ◌∙◌, subst}
-use Rattle.tables.specs.Listed.{listed}
 use Rattle.tables.specs.Rows.{Listing}
 use Rattle.analysis.specs.Seats.{Seats}
-use Rattle.analysis.specs.Told.{seats_of}
 use Rattle.analysis.specs.Weighing.{Planned}
 use Rattle.weights.specs.declared.weighing.Weights.{Weights}
 use Rattle.plans.specs.Sound.{Sound}

@@ -1,4 +1,4 @@
-use Rattle.std.proofs.Common.{◌≡◌, ℕ, List, Ok, vec_items, sym, ap, ◌∙◌, subst}
+use Rattle.std.proofs.Common.{◌≡◌, Ok, subst}
 use Rattle.tables.specs.Listed.{listed}
 use Rattle.analysis.specs.Told.{seats_of}
 use Rattle.analysis.specs.Seats.{Seats}
