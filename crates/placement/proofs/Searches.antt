@@ -6,12 +6,11 @@
 --   seat-missed  one that none takes is late
 --   tasks-..     tasks: the next has its seat, finds none, or none is left
 --   attempts-..  attempts: this one fails and others are left, it is the last, or it seats every task
-use Rattle.std.proofs.Common.{◌≡◌, ℕ, zero, suc, ◌+◌, ◌-◌, ◌<◌, ◌≤◌, Bool, true, false, cond, List, [], ◌∷◌, ◌++◌, length, is_some, is_ok, Some, None, Ok, Err, Option, Result, sym, refl, ap, ◌∙◌, subst, ⊎_elim, arith}
-use Rattle.std.proofs.lemmas.Bool.{both_ways, cases_Bool, cond-true, cond-false}
+use Rattle.std.proofs.Common.{◌≡◌, ℕ, zero, suc, ◌+◌, ◌-◌, ◌<◌, ◌≤◌, Bool, true, false, List, [], ◌∷◌, ◌++◌, length, is_some, is_ok, Some, None, Ok, Err, Option, Result, sym, refl, ap, ◌∙◌, arith}
+use Rattle.std.proofs.lemmas.Bool.{both_ways, cond-true, cond-false}
 use Rattle.disciplines.specs.Rules.{Relation}
 use Rattle.tables.specs.Rows.{Row, Listing}
-use Rattle.analysis.specs.declared.lateness.Lateness.{Lateness}
-use Rattle.analysis.specs.declared.lateness.Lateness.TheVariants.{NoBound, Whole}
+use Rattle.analysis.specs.declared.lateness.Lateness.TheVariants.{NoBound}
 use Rattle.analysis.specs.declared.lateness.WeighFault.{WeighFault}
 use Rattle.analysis.specs.declared.lateness.WeighFault.TheVariants.{Late}
 use Rattle.analysis.specs.declared.part.Bounds.{Bounds}

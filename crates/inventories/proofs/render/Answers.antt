@@ -1,10 +1,9 @@
-use Rattle.std.proofs.Common.{◌≡◌, ℕ, List, Ok, vec_items, Result, sym, ap, ◌∙◌, subst}
+use Rattle.std.proofs.Common.{◌≡◌, Ok, Result, sym, ap, ◌∙◌, subst}
 use Rattle.std.proofs.lemmas.Result.{IfOk-weaker}
 use Rattle.tables.specs.declared.fault.ReadFault.{ReadFault}
 use Rattle.tables.specs.declared.table.Table.{Table}
 use Rattle.tables.specs.Listed.{listed}
 use Rattle.tables.specs.Reading.{read_of}
-use Rattle.tables.specs.Rows.{Listing}
 use Rattle.tables.specs.Told.{Told}
 use Rattle.reports.specs.Reports.{table_text}
 use Rattle.rereading.proofs.Reading.{reads-back}

@@ -6,8 +6,7 @@ use Rattle.tables.specs.Rowed.{row_of}
 use Rattle.tables.specs.Rows.{Row, Listing}
 use Rattle.spreading.specs.Spreading.{spread_of}
 use Rattle.analysis.specs.declared.lateness.WeighFault.TheVariants.{Late}
-use Rattle.analysis.specs.Seats.{Seats}
-use Rattle.attempts.specs.Placing.{Found, attempt, attempts, goes_to, seat_tasks, tried}
+use Rattle.attempts.specs.Placing.{attempt, attempts, goes_to, seat_tasks, tried}
 use Rattle.placement.specs.Seatings.{late_with}
 use Rattle.placement.proofs.Searches.{asked, attempts-done, attempts-last, attempts-on, first_of-no, first_of-yes, none-takes, seat-found, tasks-end, tasks-on}
 use Rattle.placement.proofs.placing.find_seats.Goals as goal

@@ -1,4 +1,4 @@
-use Rattle.std.proofs.Common.{◌≡◌, ℕ, ◌-◌, ◌≤◌, List, length, is_ok, vec_items}
+use Rattle.std.proofs.Common.{◌≡◌, ◌-◌, ◌≤◌, length, is_ok, vec_items}
 use Rattle.tables.specs.Listed.{listed}
 use Rattle.attempts.specs.Placing.{attempt, attempts, find_seats, first_of, goes_to, seat_tasks, tried}
 use Rattle.placement.proofs.placing.find_seats.Given as goal
