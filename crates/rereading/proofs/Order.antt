@@ -1,10 +1,10 @@
 -- What a sound table says of a row in its midst: it comes last among the rows before it, and its resource has its place.
-use Rattle.std.proofs.Common.{◌≡◌, ℕ, zero, suc, ◌+◌, ◌<◌, true, false, not, ◌&&◌, leb, List, [], ◌∷◌, ◌++◌, length, get_or, Some, sym, refl, ap, ◌∙◌, arith}
+use Rattle.std.proofs.Common.{◌≡◌, ℕ, zero, suc, ◌+◌, ◌<◌, true, false, not, leb, List, [], ◌∷◌, ◌++◌, length, get_or, Some, refl, ap, ◌∙◌, arith}
 use Rattle.std.specs.List.{AllByRecursion as All}
 use Rattle.std.specs.Str.{bytes_eq}
 use Rattle.std.proofs.lemmas.Slice.Eq.{bytes_eq-Decides}
-use Rattle.std.proofs.lemmas.Bool.{and_parts, or_parts, or_from, not-true, both_ways, cond-true, cond-false}
-use Rattle.tables.specs.Rows.{Row, row_names, has, place_from, place_of, placed, distinct, leads, rising, inside, known, sound}
+use Rattle.std.proofs.lemmas.Bool.{and_parts, or_parts, or_from, not-true, cond-true, cond-false}
+use Rattle.tables.specs.Rows.{Row, row_names, has, place_from, place_of, placed, distinct, leads, rising, inside, known}
 use Rattle.tables.proofs.Soundness.{same-swapped}
 
 -- a name that is not there differs from each that is

@@ -12,7 +12,7 @@ use Rattle.entries.specs.declared.fault.LineFault.TheVariants.{Full, Twice, Unma
 use Rattle.entries.specs.Entries.{task_line}
 use Rattle.tables.specs.declared.fault.ReadFault.{ReadFault}
 use Rattle.tables.specs.declared.fault.ReadFault.TheVariants.{Long, Line}
-use Rattle.tables.specs.Rows.{Row, Listing, row_names, has, distinct, inside, known}
+use Rattle.tables.specs.Rows.{Row, Listing, row_names, has, distinct, inside}
 use Rattle.tables.specs.Reading.{or_unknown, resource_for, matched, fitted, place_for, with_task, with_entry, read_line, read_lines, empty_table, within_limit}
 use Rattle.writing.specs.Lines.{spaced, in_turn}
 use Rattle.reports.specs.Reports.{guard_of, task_text, tasks_text}
