@@ -1,6 +1,6 @@
 -- What one line says, or its first fault: the form, then each field from the left.
 --
---   _then_         the next step's answer, or this one's fault
+--   ◌then◌         the next step's answer, or this one's fault
 --   name_at        the name in a field, or the fault with the field's number
 --   figure_at      the figure in a field, from `low` to 10,000,000
 --   guard_at       the name of a resource, or none for `-`

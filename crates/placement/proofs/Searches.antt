@@ -1,6 +1,6 @@
 -- Each loop of the search for seats keeps that what is left gives the whole answer.
 --
---   firstOf-..   processors: the next is passed over, is taken, or none is left
+--   first_of-..  processors: the next is passed over, is taken, or none is left
 --   asked        what the code asks of a processor
 --   seat-found   a task that a processor takes has its seat there
 --   seat-missed  one that none takes is late
