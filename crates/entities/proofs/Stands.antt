@@ -24,7 +24,3 @@ inside s i h = ⊎_elim (λ l. l) (λ l. absurd (omega (arith, get_or_past s i 0
 pub single-some : (s : List ℕ) → 0 < length s → single s ≡ 1
 single-some [] h = absurd (omega arith)
 single-some (b ∷ s) h = refl
-
-pub width-none : (t : List Entity) (s : List ℕ) → length s ≡ 0 → width t s ≡ 0
-width-none t [] h = refl
-width-none t (b ∷ s) h = absurd (omega arith)

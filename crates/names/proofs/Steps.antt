@@ -1,7 +1,7 @@
 -- How decoding goes on from one unit of a field to the next, for any table of entities.
 use Rattle.std.proofs.Common.{◌≡◌, ℕ, zero, suc, ◌+◌, ◌-◌, ◌<◌, ◌≤◌, ◌&&◌, eqb, leb, List, [], ◌∷◌, ◌++◌, length, get_or, drop, Ok, Err, Result, sym, refl, ap, ◌∙◌, ⊎_elim, arith}
 use Rattle.std.proofs.lemmas.List.{length-append}
-use Rattle.std.proofs.lemmas.Bool.{cases_Bool, cond-true, cond-false, eq-eqb, ne_eqb, lt-leb, leb-false, eqb-false}
+use Rattle.std.proofs.lemmas.Bool.{cases_Bool, cond-true, cond-false, ne_eqb, lt-leb, leb-false, eqb-false}
 use Rattle.std.proofs.lemmas.Bool.Decides.{nat_tests}
 use Rattle.names.specs.declared.fault.NameFault.{NameFault}
 use Rattle.names.specs.declared.fault.NameFault.TheVariants.{Empty, BadEntity, TooLong, LoneHyphen}
@@ -22,19 +22,6 @@ module _ (t : List Entity) where
       let e : suc w - 1 ≡ w = omega arith in
       let f : at + 1 + (suc w - 1) ≡ at + suc w = omega arith in
       (λ i. decoded_from t 0 (f i) name (drop (e i) s))
-
-  pub decoded-end : (at : ℕ) (name s : List ℕ) → length s ≡ 0 → decoded_from t 0 at name s ≡ Ok name
-  decoded-end at name [] e = refl
-  decoded-end at name (b ∷ s) e = absurd (omega arith)
-
-  pub decoded-bad : (at : ℕ) (name s : List ℕ) → 0 < length s → width t s ≡ 0 → decoded_from t 0 at name s ≡ Err (BadEntity at)
-  decoded-bad at name [] l e = absurd (omega arith)
-  decoded-bad at name (b ∷ s) l e = cond-true (eqb (width t (b ∷ s)) 0) _ _ (eq-eqb _ _ e)
-
-  pub decoded-long : (at : ℕ) (name s : List ℕ) → 0 < length s → 0 < width t s → 32 ≤ length name → decoded_from t 0 at name s ≡ Err (TooLong at)
-  decoded-long at name [] l w h = absurd (omega arith)
-  decoded-long at name (b ∷ s) l w h =
-      cond-false (eqb (width t (b ∷ s)) 0) _ _ (ne_eqb _ _ (λ e. omega arith)) ∙ grind (arith, nat_tests)
 
   pub decoded-more : (at : ℕ) (name s : List ℕ) → 0 < length s → 0 < width t s → length name < 32 → decoded_from t 0 at name s ≡ decoded_from t 0 (at + width t s) (name ++ value t s ∷ []) (drop (width t s) s)
   decoded-more at name [] l w h = absurd (omega arith)

@@ -6,7 +6,7 @@ mod decoding;
 mod writing;
 
 // A decoded name: 1 to 32 bytes, and not a lone hyphen.
-#[derive(Debug, Drop)]
+#[derive(Debug, PartialEq, Eq, Drop)]
 pub struct Name {
     bytes: Vec<u8>,
     ghost lawful: { Lawful bytes.items },

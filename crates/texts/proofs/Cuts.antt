@@ -1,23 +1,11 @@
--- Where a separator cuts a list of bytes, and the lines and pieces that the cuts give.
-use Rattle.std.proofs.Common.{◌≡◌, ℕ, ◌+◌, ◌<◌, ◌≤◌, true, false, cond, eqb, List, [], ◌∷◌, length, get_or, take, drop, refl, ap, ◌∙◌, ⊎_elim, add-one, arith}
-use Rattle.std.proofs.lemmas.List.{at_drop_more, at_drop_all}
-use Rattle.std.proofs.lemmas.Bool.{cond-true, cond-false, eq-eqb, ne_eqb, cases_Bool, cases_lt}
-use Rattle.std.proofs.lemmas.Bool.Decides.{nat_tests}
-use Rattle.texts.specs.Lines.{reach, lines, pieces, onto}
+-- Where a separator cuts a list of bytes, and the lines that the cuts give.
+use Rattle.std.proofs.Common.{Some, None, Option, IfSome, MatchOption, unwrap_or, sym, Bor, ◌≡◌, ℕ, ◌+◌, ◌<◌, ◌≤◌, true, false, cond, eqb, List, [], ◌∷◌, length, take, drop, refl, ap, ◌∙◌, add-one, arith}
+use Rattle.std.proofs.lemmas.List.{drop_all, length-take}
+use Rattle.texts.specs.Lines.{reach, lines, first_line, after_line, onto, beyond, parts_from, line_parts}
 
 pub reach-within : (sep : ℕ) (s : List ℕ) → reach sep s ≤ length s
 reach-within sep [] = omega arith
 reach-within sep (b ∷ s) = let h = reach-within sep s in grind arith
-
--- one step of the search for a separator
-pub reach_here : (sep : ℕ) (s : List ℕ) (i : ℕ) → i < length s → get_or s i 0 ≡ sep → reach sep (drop i s) ≡ 0
-reach_here sep s i h e = at_drop_more (reach sep) s i 0 h ∙ cond-true (eqb (get_or s i 0) sep) _ _ (eq-eqb _ _ e)
-
-pub reach-next : (sep : ℕ) (s : List ℕ) (i : ℕ) → i < length s → (get_or s i 0 ≡ sep → ⊥) → reach sep (drop i s) ≡ reach sep (drop (i + 1) s) + 1
-reach-next sep s i h ne = at_drop_more (reach sep) s i 0 h ∙ cond-false (eqb (get_or s i 0) sep) _ _ (ne_eqb _ _ ne)
-
-pub reach-end : (sep : ℕ) (s : List ℕ) (i : ℕ) → length s ≤ i → reach sep (drop i s) ≡ 0
-reach-end sep s i h = at_drop_all (reach sep) s i h
 
 lines-shift : (b r : ℕ) (s : List ℕ) → ◌≡◌ {A = List (List ℕ)} ((b ∷ take r s) ∷ lines (drop (r + 1) s)) (take (r + 1) (b ∷ s) ∷ lines (drop (r + 1 + 1) (b ∷ s)))
 lines-shift b r s = simp add-one
@@ -33,29 +21,21 @@ lines_cut (b ∷ s) h =
     elim (eqb b 10) as (λ t. cond t ([] ∷ lines s) (onto b (lines s)) ≡ take (cond t 0 (reach 10 s + 1)) (b ∷ s) ∷ lines (drop (cond t 0 (reach 10 s + 1) + 1) (b ∷ s)))
     [ true ↦ refl | false ↦ lines-grown b s (lines_cut s) ]
 
--- no space is left: one piece
-pub pieces-last : (s : List ℕ) → reach 32 s ≡ length s → pieces s ≡ s ∷ []
-pieces-last [] e = refl
-pieces-last (b ∷ s) e =
-    let no : eqb b 32 ≡ false = grind (arith, nat_tests) in
-    let more : reach 32 s ≡ length s = grind (arith, nat_tests) in
-    cond-false (eqb b 32) _ _ no ∙ ap (onto b) (pieces-last s more)
+-- the first line is as long as it reaches
+pub first-length : (s : List ℕ) → length (first_line s) ≡ reach 10 s
+first-length s = length-take (reach 10 s) s ∙ (let h = reach-within 10 s in omega arith)
 
--- the first piece, and the pieces after its space
-pub pieces-cut : (s : List ℕ) → reach 32 s < length s → pieces s ≡ take (reach 32 s) s ∷ pieces (drop (reach 32 s + 1) s)
-pieces-cut [] h = absurd (omega arith)
-pieces-cut (b ∷ s) h =
-    ⊎_elim
-    (λ (e : eqb b 32 ≡ true). simp e)
-    (λ (e : eqb b 32 ≡ false).
-    let more : reach 32 s < length s = grind (arith, nat_tests) in
-    cond-false (eqb b 32) _ _ e ∙ ap (onto b) (pieces-cut s more) ∙ simp (e, add-one))
-    (cases_Bool (eqb b 32))
+-- the same of the parts of a text that its lines are
+pub parts-cut : (text : Bor (List ℕ)) → 0 < length text.now → line_parts text ≡ record { ref_ptr = text.ref_ptr; now = first_line text.now } ∷ parts_from (beyond text.ref_ptr (reach 10 text.now + 1)) (lines (after_line text.now))
+parts-cut text h =
+    ap (parts_from text.ref_ptr) (lines_cut text.now h)
+    ∙ ap (λ n. record { ref_ptr = text.ref_ptr; now = first_line text.now } ∷ parts_from (beyond text.ref_ptr (n + 1)) (lines (after_line text.now))) (first-length text.now)
 
--- a line has a piece, be it empty
-pub pieces-some : (s : List ℕ) → 0 < length (pieces s)
-pieces-some s =
-    ⊎_elim
-    (λ more. omega (arith, ap length (pieces-cut s more)))
-    (λ last. omega (arith, ap length (pieces-last s (omega (arith, reach-within 32 s)))))
-    (cases_lt (reach 32 s) (length s))
+-- what is left after the first line, which is nothing where no LF is found
+pub left-after : (text rest nothing : Bor (List ℕ)) (after : Option (Bor (List ℕ))) → rest ≡ unwrap_or after nothing → nothing.now ≡ [] → MatchOption after (reach 10 text.now ≡ length text.now) (λ t. (reach 10 text.now < length text.now) × (t.now ≡ after_line text.now)) → IfSome after (λ t. t.ref_ptr ≡ beyond text.ref_ptr (reach 10 text.now + 1)) → (rest.now ≡ after_line text.now) × (parts_from (beyond text.ref_ptr (reach 10 text.now + 1)) (lines (after_line text.now)) ≡ line_parts rest)
+left-after text rest nothing (Some t) is none back at = (ap (λ (b : Bor (List ℕ)). b.now) is ∙ back.1, (λ i. parts_from (sym at i) (lines (sym back.1 i))) ∙ ap line_parts (sym is))
+left-after text rest nothing None is none back at =
+    let over : after_line text.now ≡ [] = drop_all (reach 10 text.now + 1) text.now (omega arith) in (
+      ap (λ (b : Bor (List ℕ)). b.now) is ∙ none ∙ sym over,
+      ap (λ s. parts_from (beyond text.ref_ptr (reach 10 text.now + 1)) (lines s)) over ∙ ap (λ s. parts_from nothing.ref_ptr (lines s)) (sym none) ∙ ap line_parts (sym is),
+    )

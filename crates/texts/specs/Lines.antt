@@ -11,6 +11,7 @@
 --   chosen        the one of the two texts that is meant
 --   line_at       the line of a place; empty where there is no such line
 --   line_address  the address at which the line of that number begins; another where there is no such line
+--   line_parts    the lines of a text, each as the part of the text that it is
 use Rattle.std.specs.Prelude.{◌≡◌, ℕ, ◌+◌, ◌-◌, Bool, cond, ◌&&◌, List, [], ◌∷◌, length, take, drop, ◌==◌, nat_le, slice_index_or}
 use Rattle.std.specs.Borrow.{Bor}
 use Rattle.texts.specs.declared.place.Text.{Text}
@@ -68,3 +69,11 @@ beyond address n = (address.0, address.1 + n)
 
 abbrev pub line_address : Bor (List ℕ) → ℕ → ℕ × ℕ → ℕ × ℕ
 line_address text n nowhere = cond (has_line n text.now) (beyond text.ref_ptr (line_start n text.now)) nowhere
+
+-- the lines that stand from an address on, each with its LF
+abbrev pub parts_from : ℕ × ℕ → List (List ℕ) → List (Bor (List ℕ))
+parts_from address [] = []
+parts_from address (l ∷ ls) = record { ref_ptr = address; now = l } ∷ parts_from (beyond address (length l + 1)) ls
+
+abbrev pub line_parts : Bor (List ℕ) → List (Bor (List ℕ))
+line_parts text = parts_from text.ref_ptr (lines text.now)

@@ -4,12 +4,13 @@ ghost use Rattle.names.specs.Spelled.{spelled};
 use crate::name::Name;
 use std::alloc::AllocError;
 
-// A copy is spelled as its name.
+// A copy is spelled as its name. No derive writes it for a struct with a ghost field.
 impl Clone for Name {
     ghost is_clone = { λ n m. spelled m ≡ spelled n };
 
     fn clone(&self) -> Result<Name, AllocError> {
-        let bytes = Vec::from_slice(*self.bytes.allocator(), self.as_bytes())?;
-        Ok(Name { bytes })
+        Ok(Name {
+            bytes: self.bytes.clone()?,
+        })
     }
 }

@@ -8,6 +8,8 @@ use crate::name::{Name, NameBuffer};
 use entities::unit;
 use std::alloc::{AllocError, Global};
 
+const MOST_BYTES: usize = 32;
+
 // The name that a field stands for, into memory that has room for it.
 fn decode_into(field: &[u8], name: &mut Vec<u8>) -> Result<(), NameFault>
     requires { (name.old.items ≡ []) × (32 ≤ vec_capacity name.old) }
@@ -16,10 +18,8 @@ fn decode_into(field: &[u8], name: &mut Vec<u8>) -> Result<(), NameFault>
     let mut rest = field;
     while !rest.is_empty() {
         let at = field.len() - rest.len() + 1;
-        let Some(decoded) = unit(rest) else {
-            return Err(NameFault::BadEntity(at));
-        };
-        if name.len() >= 32 {
+        let decoded = unit(rest).ok_or(NameFault::BadEntity(at))?;
+        if name.len() >= MOST_BYTES {
             return Err(NameFault::TooLong(at));
         }
         name.push_reserved(decoded.byte);
@@ -33,20 +33,18 @@ fn admit(bytes: Vec<u8>) -> Result<Name, NameFault>
     requires { length bytes.items ≤ 32 }
     ensures { spelling result ≡ admitted (Ok bytes.items) }
 {
-    if bytes.is_empty() {
-        return Err(NameFault::Empty);
+    match bytes.as_slice() {
+        [] => Err(NameFault::Empty),
+        [b'-'] => Err(NameFault::LoneHyphen),
+        _ => Ok(Name { bytes }),
     }
-    if bytes.len() == 1 && bytes[0] == b'-' {
-        return Err(NameFault::LoneHyphen);
-    }
-    Ok(Name { bytes })
 }
 
 impl NameBuffer {
     pub fn new(heap: Global) -> Result<NameBuffer, AllocError>
         ensures { IfOk result (λ b. b.bytes.items ≡ []) }
     {
-        let bytes = Vec::with_capacity(heap, 32)?;
+        let bytes = Vec::with_capacity(heap, MOST_BYTES)?;
         Ok(NameBuffer { bytes })
     }
 

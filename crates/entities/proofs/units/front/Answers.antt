@@ -1,25 +1,10 @@
 use Rattle.std.proofs.Common.{◌≡◌, true, false, eqb, get_or, codes, arith}
-use Rattle.std.proofs.lemmas.Bool.{ltb-true, ltb-false}
+use Rattle.std.proofs.lemmas.Bool.{ltb-false}
 use Rattle.std.proofs.lemmas.Bool.Decides.{nat_tests}
 use Rattle.std.proofs.lemmas.List.{take_rest, length-drop}
-use Rattle.entities.specs.Entities.{five, stands_at}
-use Rattle.entities.proofs.Stands.{stands-not, inside, single-some, width-none}
+use Rattle.entities.specs.Entities.{stands_at}
+use Rattle.entities.proofs.Stands.{stands-not, inside, single-some}
 use Rattle.entities.proofs.units.front.Goals as goal
-
-pub returns-in-38-4 : goal.returns-in-38-4
-returns-in-38-4 c = grind (arith, nat_tests, take_rest, length-drop)
-
-pub returns-in-38-5 : goal.returns-in-38-5
-returns-in-38-5 c = grind (arith, nat_tests, take_rest, length-drop)
-
-pub returns-in-38 : goal.returns-in-38
-returns-in-38 c = grind (arith, nat_tests, take_rest, length-drop)
-
-pub returns-in-38-2 : goal.returns-in-38-2
-returns-in-38-2 c = grind (arith, nat_tests, take_rest, length-drop)
-
-pub returns-in-38-3 : goal.returns-in-38-3
-returns-in-38-3 c = grind (arith, nat_tests, take_rest, length-drop)
 
 pub returns-in-38-6 : goal.returns-in-38-6
 returns-in-38-6 c =
@@ -34,6 +19,3 @@ returns-in-38-6 c =
 
 pub returns-in-len1-up : goal.returns-in-len1-up
 returns-in-len1-up c = let one = single-some c.args.field.now (omega (arith, ltb-false)) in grind (arith, nat_tests, take_rest, length-drop)
-
-pub returns-in-empty : goal.returns-in-empty
-returns-in-empty c = width-none five c.args.field.now (omega (arith, ltb-true))

@@ -13,7 +13,7 @@ loop-byte-preserved c =
       | in-None+in_ok-push-in-None w ↦ cc (w.in-None.ensures, w.in_ok-push-in-None.ensures.items)
     ]
 
-pub returns : goal.returns
-returns c =
+pub returns-clause-reads_back : goal.returns-clause-reads_back
+returns-clause-reads_back c =
     let same = c.loop-byte.invariant ∙ ap encoded (take_all c.loop-byte.byte-index c.args.name.now c.loop-byte-test.false) in
-    record { value = same; reads_back = λ h. ap decoded same ∙ round_trip _ h }
+    λ h. ap decoded same ∙ round_trip _ h
