@@ -4,7 +4,7 @@
 ghost use Rattle.std.specs.Prelude.{◌≡◌};
 ghost use Rattle.boxes.specs.Boxes.{box_of, box_with, figure_part, rule_of, rule_part};
 
-use fields::{is_same, within};
+use fields::within;
 use texts::cut;
 
 // One of the supplied disciplines.
@@ -21,26 +21,25 @@ pub struct BoxLine {
     pub rule: Rule,
 }
 
-fn rule_of(word: &[u8]) -> Option<Rule>
-    ensures { result ≡ rule_of word.now }
-{
-    if is_same(word, b"ceiling") {
-        return Some(Rule::Ceiling);
+impl Rule {
+    // The discipline that a word names. No `TryFrom`, since there is no error to tell.
+    fn named(word: &[u8]) -> Option<Rule>
+        ensures { result ≡ rule_of word.now }
+    {
+        match word {
+            b"ceiling" => Some(Rule::Ceiling),
+            b"whole" => Some(Rule::Whole),
+            _ => None,
+        }
     }
-    if is_same(word, b"whole") {
-        return Some(Rule::Whole);
-    }
-    None
 }
 
 fn box_with(figure: &[u8], word: &[u8]) -> Option<BoxLine>
     ensures { result ≡ box_with figure.now word.now }
 {
-    let processors = within(figure, 2, 16)?;
-    let rule = rule_of(word)?;
     Some(BoxLine {
-        processors: processors as u8,
-        rule,
+        processors: within(figure, 2, 16)? as u8,
+        rule: Rule::named(word)?,
     })
 }
 
@@ -49,10 +48,7 @@ fn parse_line(line: &[u8]) -> Option<BoxLine>
     ensures { result ≡ box_with (figure_part line.now) (rule_part line.now) }
 {
     let (figure, word) = cut(line, b' ');
-    match word {
-        Some(word) => box_with(figure, word),
-        None => None,
-    }
+    box_with(figure, word?)
 }
 
 // What the first line of an input says of a box; none where it is not in form.

@@ -1,8 +1,10 @@
 ghost use Rattle.std.specs.Prelude.{◌≡◌};
 ghost use Rattle.entries.specs.Faults.{located};
+ghost use Rattle.entries.specs.declared.fault.LineError.TheVariants.{Fault, Memory};
 ghost use Rattle.entries.specs.declared.fault.LineFault.TheVariants.{Name};
 
 use names::NameFault;
+use std::alloc::{AllocError, AllocFailed};
 
 // What is wrong with a line. A field is told by its number, counted from 1.
 #[derive(Clone, Copy, Debug, PartialEq, Eq)]
@@ -25,6 +27,13 @@ pub enum LineFault {
     Overfull,
 }
 
+// Why a line gives nothing: its fault, or want of memory.
+#[derive(Clone, Copy, Debug)]
+pub enum LineError {
+    Fault(LineFault),
+    Memory,
+}
+
 // A fault, and the place in what lies above where it was found.
 #[derive(Clone, Copy, Debug)]
 pub struct At<P, E> {
@@ -36,10 +45,7 @@ pub struct At<P, E> {
 pub(crate) fn locate<P: Drop, T, E>(place: P, found: Result<T, E>) -> Result<T, At<P, E>>
     ensures { result ≡ located place found }
 {
-    match found {
-        Ok(value) => Ok(value),
-        Err(fault) => Err(At { place, fault }),
-    }
+    found.map_err(|fault| At { place, fault })
 }
 
 impl From<At<usize, NameFault>> for LineFault {
@@ -47,5 +53,29 @@ impl From<At<usize, NameFault>> for LineFault {
 
     fn from(e: At<usize, NameFault>) -> LineFault {
         LineFault::Name(e.place, e.fault)
+    }
+}
+
+impl From<LineFault> for LineError {
+    ghost from_gives = { λ e r. r ≡ Fault e };
+
+    fn from(e: LineFault) -> LineError {
+        LineError::Fault(e)
+    }
+}
+
+impl From<AllocError> for LineError {
+    ghost from_gives = { λ _ r. r ≡ Memory };
+
+    fn from(_e: AllocError) -> LineError {
+        LineError::Memory
+    }
+}
+
+impl<T: Drop> From<AllocFailed<T>> for LineError {
+    ghost from_gives = { λ _ r. r ≡ Memory };
+
+    fn from(_e: AllocFailed<T>) -> LineError {
+        LineError::Memory
     }
 }

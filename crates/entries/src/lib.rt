@@ -6,5 +6,5 @@ mod fault;
 mod parsing;
 
 pub use entry::Entry;
-pub use fault::{At, LineFault};
+pub use fault::{At, LineError, LineFault};
 pub use parsing::{parse_resource, parse_task};

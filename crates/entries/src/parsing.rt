@@ -1,17 +1,20 @@
 ghost use Rattle.std.specs.Prelude.{◌≡◌, ◌≤◌, IfOk};
+ghost use Rattle.std.specs.Option.{option_map};
+ghost use Rattle.names.specs.Spelled.{spelled};
 ghost use Rattle.fields.specs.Fields.{shape};
 ghost use Rattle.fields.specs.Forms.{resource_shapes, task_shapes};
 ghost use Rattle.entries.specs.Entries.{entry_of, figure_at, guard_at, name_at, resource_line, task_line};
-ghost use Rattle.entries.specs.Said.{guard, said, spelled_at};
+ghost use Rattle.entries.specs.Said.{entered, result_map};
+ghost use Rattle.entries.specs.Told.{Told};
 
 use crate::entry::Entry;
-use crate::fault::{LineFault, locate};
-use fields::{Field, ResourceLine, TaskLine, Ticks};
+use crate::fault::{LineError, LineFault, locate};
+use fields::{Field, LineForm, ResourceLine, TaskLine, Ticks};
 use names::{Name, NameBuffer};
-use std::alloc::{AllocError, Global};
+use std::alloc::Global;
 
 fn name_at(number: usize, field: Field, room: NameBuffer) -> Result<Name, LineFault>
-    ensures { spelled_at result ≡ name_at number (shape field.entry) }
+    ensures { result_map spelled result ≡ name_at number (shape field.entry) }
 {
     Ok(locate(number, field.name(room))?)
 }
@@ -20,15 +23,12 @@ fn figure_at(number: usize, field: Field, low: Ticks) -> Result<Ticks, LineFault
     ensures value { result ≡ figure_at number low (shape field.entry) }
     ensures range { IfOk result (λ n. (low ≤ n) × (n ≤ 10000000)) }
 {
-    match field.figure(low) {
-        Some(n) => Ok(n),
-        None => Err(LineFault::Figure(number)),
-    }
+    field.figure(low).ok_or(LineFault::Figure(number))
 }
 
 // The resource that a field names; a hyphen names none.
 fn guard_at(number: usize, field: Field, room: NameBuffer) -> Result<Option<Name>, LineFault>
-    ensures { guard result ≡ guard_at number (shape field.entry) }
+    ensures { result_map (option_map spelled) result ≡ guard_at number (shape field.entry) }
 {
     match field {
         Field::Hyphen => Ok(None),
@@ -38,7 +38,7 @@ fn guard_at(number: usize, field: Field, room: NameBuffer) -> Result<Option<Name
 
 // The fields of a task line as what they stand for, from the left to the first fault.
 fn convert(line: TaskLine, name: NameBuffer, resource: NameBuffer) -> Result<Entry, LineFault>
-    ensures { said result ≡ entry_of (task_shapes line.entry) }
+    ensures { result_map entered result ≡ entry_of (task_shapes line.entry) }
 {
     let name = name_at(2, line.name, name)?;
     let before = figure_at(3, line.before, 0)?;
@@ -56,25 +56,21 @@ fn convert(line: TaskLine, name: NameBuffer, resource: NameBuffer) -> Result<Ent
     })
 }
 
-// The name that a resource line declares. The outer error is want of memory.
-pub fn parse_resource(heap: Global, line: &[u8]) -> Result<Result<Name, LineFault>, AllocError>
-    ensures { IfOk result (λ d. spelled_at d ≡ resource_line line.now) }
+// The name that a resource line declares.
+pub fn parse_resource(heap: Global, line: &[u8]) -> Result<Name, LineError>
+    ensures { Told result spelled (resource_line line.now) }
 {
-    let Some(fields) = ResourceLine::split(heap, line)? else {
-        return Ok(Err(LineFault::Form));
-    };
+    let fields = ResourceLine::split(heap, line)?.ok_or(LineFault::Form)?;
     let room = NameBuffer::new(heap)?;
-    Ok(name_at(2, fields.name, room))
+    Ok(name_at(2, fields.name, room)?)
 }
 
-// What a task line declares. The outer error is want of memory.
-pub fn parse_task(heap: Global, line: &[u8]) -> Result<Result<Entry, LineFault>, AllocError>
-    ensures { IfOk result (λ d. said d ≡ task_line line.now) }
+// What a task line declares.
+pub fn parse_task(heap: Global, line: &[u8]) -> Result<Entry, LineError>
+    ensures { Told result entered (task_line line.now) }
 {
-    let Some(fields) = TaskLine::split(heap, line)? else {
-        return Ok(Err(LineFault::Form));
-    };
+    let fields = TaskLine::split(heap, line)?.ok_or(LineFault::Form)?;
     let name = NameBuffer::new(heap)?;
     let resource = NameBuffer::new(heap)?;
-    Ok(convert(fields, name, resource))
+    Ok(convert(fields, name, resource)?)
 }

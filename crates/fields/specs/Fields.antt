@@ -7,7 +7,8 @@
 --   shape           a field's shape: its bytes without the reference to the text
 --   piece_of        the bytes of a field as they stand in the text
 --   name_or_hyphen  a name, or a lone hyphen for none
-use Rattle.std.specs.Prelude.{ℕ, Bool, true, cond, ◌&&◌, List, [], ◌∷◌, length, codes, nat_le}
+use Rattle.std.specs.Prelude.{ℕ, Bool, cond, ◌&&◌, List, [], ◌∷◌, length, codes, nat_le}
+use Rattle.std.specs.List.{list_all}
 use Rattle.std.specs.Str.{bytes_eq}
 use Rattle.fields.specs.declared.fields.Field.{Field}
 use Rattle.fields.specs.declared.fields.Field.TheVariants.{Word, Figure, Name, Hyphen}
@@ -16,8 +17,7 @@ abbrev pub visible : ℕ → Bool
 visible b = nat_le 33 b && nat_le b 126
 
 abbrev pub all_visible : List ℕ → Bool
-all_visible [] = true
-all_visible (b ∷ s) = visible b && all_visible s
+all_visible s = list_all visible s
 
 abbrev pub filled : List ℕ → Bool
 filled s = nat_le 1 (length s) && all_visible s

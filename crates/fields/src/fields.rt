@@ -1,8 +1,7 @@
 ghost use Rattle.std.specs.Prelude.{◌≡◌};
 ghost use Rattle.names.specs.Names.{decoded};
 ghost use Rattle.names.specs.Spelled.{spelling};
-ghost use Rattle.std.specs.Str.{bytes_eq};
-ghost use Rattle.fields.specs.Fields.{filled, name_or_hyphen, piece_of, shape};
+ghost use Rattle.fields.specs.Fields.{all_visible, filled, name_or_hyphen, piece_of, shape};
 ghost use Rattle.fields.specs.Figures.{at_most, figure_of};
 
 use crate::figures::{LONGEST, Ticks, within};
@@ -43,32 +42,26 @@ impl<'a> Field<'a> {
     }
 }
 
-// Whether two pieces are the same bytes.
-pub fn is_same(a: &[u8], b: &[u8]) -> bool
-    ensures { result ≡ bytes_eq a.now b.now }
+// Whether each byte of a piece may stand in a field.
+fn all_visible(piece: &[u8]) -> bool
+    ensures { result ≡ all_visible piece.now }
 {
-    a == b
+    piece.iter().all(|b| b.is_ascii_graphic())
 }
 
 // Whether a piece of a line is a field: one or more visible bytes.
 pub(crate) fn is_filled(piece: &[u8]) -> bool
     ensures { result ≡ filled piece.now }
 {
-    for b in piece {
-        if *b < 33 || *b > 126 {
-            return false;
-        }
-    }
-    !piece.is_empty()
+    !piece.is_empty() && all_visible(piece)
 }
 
 // A lone hyphen stands for no name.
 pub(crate) fn name_or_hyphen<'a>(piece: &'a [u8]) -> Field<'a>
     ensures { shape result ≡ name_or_hyphen piece.now }
 {
-    if is_same(piece, b"-") {
-        Field::Hyphen
-    } else {
-        Field::Name(piece)
+    match piece {
+        b"-" => Field::Hyphen,
+        _ => Field::Name(piece),
     }
 }

@@ -12,14 +12,10 @@ fn number(bytes: &[u8]) -> Option<Ticks>
     requires { length bytes.now ≤ 8 }
     ensures { result ≡ digits 0 bytes.now }
 {
-    let mut n = 0;
-    for d in bytes {
-        if *d < b'0' || *d > b'9' {
-            return None;
-        }
-        n = n * 10 + (*d - b'0') as Ticks;
-    }
-    Some(n)
+    bytes.iter().try_fold(0, |n, d| match d {
+        b'0'..=b'9' => Some(n * 10 + (*d - b'0') as Ticks),
+        _ => None,
+    })
 }
 
 // The figure that the bytes write: 1 to 8 digits, and no needless leading zero.
@@ -33,10 +29,10 @@ fn figure_of(bytes: &[u8]) -> Option<Ticks>
     }
 }
 
-// The figure that the bytes write, if it is one from `low` to `high`.
+// The figure that the bytes write, if it is one from `low` to `high`. Two ends, since a `RangeInclusive` that was used up
+// holds nothing.
 pub fn within(bytes: &[u8], low: Ticks, high: Ticks) -> Option<Ticks>
     ensures { result ≡ at_most low high (figure_of bytes.now) }
 {
-    let n = figure_of(bytes)?;
-    if low <= n && n <= high { Some(n) } else { None }
+    figure_of(bytes).filter(|n| (low..=high).contains(n))
 }

@@ -1,11 +1,12 @@
-ghost use Rattle.std.specs.Prelude.{◌≡◌, ◌<◌, length, IfOk, if◌then◌else◌, Some, None, MatchOption, ◌≢◌, nat_eq};
+ghost use Rattle.std.specs.Prelude.{◌≡◌, ◌<◌, ℕ, List, length, take, codes, IfOk, if◌then◌else◌, Some, None, nat_eq};
 ghost use Rattle.std.specs.Option.{option_map};
-ghost use Rattle.fields.specs.Forms.{all_filled, held, in_form, resource_fields, resource_form, resource_shapes, task_fields, task_form, task_shapes};
+ghost use Rattle.std.proofs.Common.{lit<};
+ghost use Rattle.fields.specs.Fields.{Shape};
+ghost use Rattle.fields.specs.Forms.{all_filled, form, held, in_form, resource_fields, resource_shapes, task_fields, task_shapes};
 ghost use Rattle.texts.specs.Lines.{pieces};
 
-use crate::fields::{Field, is_filled, is_same, name_or_hyphen};
+use crate::fields::{Field, is_filled, name_or_hyphen};
 use std::alloc::{AllocError, Global};
-use texts::cut;
 
 // The fields of a line that declares a resource.
 #[derive(Clone, Copy, Debug)]
@@ -26,106 +27,154 @@ pub struct TaskLine<'a> {
     pub resource: Field<'a>,
 }
 
-impl<'a> ResourceLine<'a> {
-    // The fields of a line in the form `resource NAME`; none where the line is not in form.
-    pub fn split(heap: Global, line: &'a [u8]) -> Result<Option<ResourceLine<'a>>, AllocError>
-        ensures { IfOk result (λ o. option_map resource_shapes o ≡ resource_form line.now) }
+// A kind of line: how many fields it has, the word that it begins with, and what its pieces are.
+pub trait LineForm<'a> {
+    ghost count: { ℕ };
+
+    ghost keyword: { List ℕ };
+
+    // the shapes of a line's fields, in their order
+    ghost shapes: { Self → List Shape };
+
+    // what the pieces of a line are
+    ghost fields: { List (List ℕ) → List Shape };
+
+    // How many fields a line has. A function, since the check states no constant of a trait where an impl has a lifetime.
+    fn count() -> usize
+        ensures { result ≡ count };
+
+    // The word that a line begins with.
+    fn keyword() -> &'static [u8]
+        ensures { result.now ≡ keyword };
+
+    // The line that the pieces make, if there are that many.
+    fn of_pieces(pieces: &[&'a [u8]]) -> Option<Self>
+    where
+        Self: Sized,
+        ensures { option_map shapes result ≡ (if nat_eq (length (held pieces.now)) count then Some (fields (held pieces.now)) else None) };
+
+    // a line has a first field
+    ghost some: { 0 < count };
+
+    // and one more than its fields can be counted
+    ghost few: { count < 100 };
+
+    // The fields of a line in this form; none where the line is not in form. It takes no more pieces than it needs to
+    // tell.
+    final fn split(heap: Global, line: &'a [u8]) -> Result<Option<Self>, AllocError>
+    where
+        Self: Sized,
+        ensures { IfOk result (λ o. option_map shapes o ≡ form count keyword fields line.now) }
     {
-        let Some(pieces) = split_fields(heap, line, 2)? else {
-            return Ok(None);
-        };
-        if !in_form(pieces.as_slice(), 2, b"resource") {
+        let pieces = split_fields(heap, line, Self::count() + 1)?;
+        if !in_form(&pieces, Self::count(), Self::keyword()) {
             return Ok(None);
         }
-        Ok(resource_fields(pieces.as_slice()))
+        Ok(Self::of_pieces(&pieces))
     }
 }
 
-impl<'a> TaskLine<'a> {
-    // The fields of a line in the form `task NAME BEFORE CRITICAL AFTER PERIOD RESOURCE`; none where the line is not in
-    // form.
-    pub fn split(heap: Global, line: &'a [u8]) -> Result<Option<TaskLine<'a>>, AllocError>
-        ensures { IfOk result (λ o. option_map task_shapes o ≡ task_form line.now) }
+// A line in the form `resource NAME`.
+impl<'a> LineForm<'a> for ResourceLine<'a> {
+    ghost count = { 2 };
+
+    ghost keyword = { codes "resource" };
+
+    ghost shapes = { resource_shapes };
+
+    ghost fields = { resource_fields };
+
+    fn count() -> usize
+        ensures { result ≡ 2 }
     {
-        let Some(pieces) = split_fields(heap, line, 7)? else {
-            return Ok(None);
-        };
-        if !in_form(pieces.as_slice(), 7, b"task") {
-            return Ok(None);
-        }
-        Ok(task_fields(pieces.as_slice()))
+        2
     }
+
+    fn keyword() -> &'static [u8]
+        ensures { result.now ≡ codes "resource" }
+    {
+        b"resource"
+    }
+
+    fn of_pieces(pieces: &[&'a [u8]]) -> Option<ResourceLine<'a>>
+        ensures { option_map resource_shapes result ≡ (if nat_eq (length (held pieces.now)) 2 then Some (resource_fields (held pieces.now)) else None) }
+    {
+        match pieces {
+            [word, name] => Some(ResourceLine {
+                word: Field::Word(word),
+                name: Field::Name(name),
+            }),
+            _ => None,
+        }
+    }
+
+    ghost some = { lit< tt };
+
+    ghost few = { lit< tt };
 }
 
-// The pieces of a line between single spaces, if there are `count`. It reads no further than it takes to tell.
-fn split_fields<'a>(
-    heap: Global,
-    line: &'a [u8],
-    count: usize,
-) -> Result<Option<Vec<&'a [u8]>>, AllocError>
-    ensures { IfOk result (λ o. MatchOption o (length (pieces line.now) ≢ count) (λ v. held v.items ≡ pieces line.now)) }
+// A line in the form `task NAME BEFORE CRITICAL AFTER PERIOD RESOURCE`.
+impl<'a> LineForm<'a> for TaskLine<'a> {
+    ghost count = { 7 };
+
+    ghost keyword = { codes "task" };
+
+    ghost shapes = { task_shapes };
+
+    ghost fields = { task_fields };
+
+    fn count() -> usize
+        ensures { result ≡ 7 }
+    {
+        7
+    }
+
+    fn keyword() -> &'static [u8]
+        ensures { result.now ≡ codes "task" }
+    {
+        b"task"
+    }
+
+    fn of_pieces(pieces: &[&'a [u8]]) -> Option<TaskLine<'a>>
+        ensures { option_map task_shapes result ≡ (if nat_eq (length (held pieces.now)) 7 then Some (task_fields (held pieces.now)) else None) }
+    {
+        match pieces {
+            [word, name, before, critical, after, period, resource] => Some(TaskLine {
+                word: Field::Word(word),
+                name: Field::Name(name),
+                before: Field::Figure(before),
+                critical: Field::Figure(critical),
+                after: Field::Figure(after),
+                period: Field::Figure(period),
+                resource: name_or_hyphen(resource),
+            }),
+            _ => None,
+        }
+    }
+
+    ghost some = { lit< tt };
+
+    ghost few = { lit< tt };
+}
+
+// The first pieces of a line between single spaces, `most` at the most.
+fn split_fields(heap: Global, line: &[u8], most: usize) -> Result<Vec<&[u8]>, AllocError>
+    ensures { IfOk result (λ v. held v.items ≡ take most (pieces line.now)) }
 {
-    let mut out = Vec::with_capacity(heap, count)?;
-    let mut rest = line;
-    while out.len() < count {
-        let (front, after) = cut(rest, b' ');
-        out.push(front)?;
-        match after {
-            Some(next) => rest = next,
-            None if out.len() == count => return Ok(Some(out)),
-            None => return Ok(None),
-        }
-    }
-    Ok(None)
+    line.split(|b| *b == b' ').take(most).collect(heap)
 }
 
+// Whether each piece of a line is a field.
 fn all_filled(pieces: &[&[u8]]) -> bool
     ensures { result ≡ all_filled (held pieces.now) }
 {
-    for piece in pieces {
-        if !is_filled(piece) {
-            return false;
-        }
-    }
-    true
+    pieces.iter().all(|piece| is_filled(piece))
 }
 
-// Whether a line has that many fields, of which the first is the keyword.
+// Whether the pieces are so many fields, of which the first is the keyword.
 fn in_form(pieces: &[&[u8]], count: usize, keyword: &[u8]) -> bool
     requires { 0 < count }
     ensures { result ≡ in_form count keyword.now (held pieces.now) }
 {
-    if pieces.len() != count || !all_filled(pieces) {
-        return false;
-    }
-    is_same(keyword, pieces[0])
-}
-
-fn resource_fields<'a>(pieces: &[&'a [u8]]) -> Option<ResourceLine<'a>>
-    ensures { option_map resource_shapes result ≡ (if nat_eq (length (held pieces.now)) 2 then Some (resource_fields (held pieces.now)) else None) }
-{
-    match pieces {
-        [word, name] => Some(ResourceLine {
-            word: Field::Word(word),
-            name: Field::Name(name),
-        }),
-        _ => None,
-    }
-}
-
-fn task_fields<'a>(pieces: &[&'a [u8]]) -> Option<TaskLine<'a>>
-    ensures { option_map task_shapes result ≡ (if nat_eq (length (held pieces.now)) 7 then Some (task_fields (held pieces.now)) else None) }
-{
-    match pieces {
-        [word, name, before, critical, after, period, resource] => Some(TaskLine {
-            word: Field::Word(word),
-            name: Field::Name(name),
-            before: Field::Figure(before),
-            critical: Field::Figure(critical),
-            after: Field::Figure(after),
-            period: Field::Figure(period),
-            resource: name_or_hyphen(resource),
-        }),
-        _ => None,
-    }
+    pieces.len() == count && all_filled(pieces) && keyword == pieces[0]
 }

@@ -16,5 +16,5 @@ unruled line after Rest none back =
     let whole : reach 32 line ≡ length line = subst (λ (o : Option (Bor (List ℕ))). MatchOption o (reach 32 line ≡ length line) Rest) none back in
     ap (box_with (figure_part line)) (drop_all (reach 32 line + 1) line (omega arith)) ∙ no-rule (at_most 2 16 (figure_of (figure_part line)))
 
-pub returns-in-None : goal.returns-in-None
-returns-in-None c = sym (unruled c.args.line.now c.cut.result.1 _ c.in-None.is c.cut.ensures.back)
+pub returns-in_err-word : goal.returns-in_err-word
+returns-in_err-word c = c.from_residual.ensures ∙ sym (unruled c.args.line.now c.cut.result.1 _ c.in_err-word.was c.cut.ensures.back)

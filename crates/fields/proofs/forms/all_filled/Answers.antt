@@ -1,12 +1,12 @@
-use Rattle.std.proofs.Common.{sym, ◌∙◌}
-use Rattle.fields.proofs.Held.{all-filled-all, all-filled-at}
+use Rattle.std.proofs.Common.{rules, tests, sym, ◌∙◌}
+use Rattle.std.proofs.lemmas.Iterator.{YieldsList-from_slice}
+use Rattle.std.proofs.lemmas.Iterator.Search.{all_from_yields_List}
+use Rattle.std.proofs.lemmas.List.Folds.{list_all-map}
+use Rattle.fields.specs.Fields.{filled}
+use Rattle.fields.proofs.Held.{bytes}
 use Rattle.fields.proofs.forms.all_filled.Goals as goal
 
-pub returns-then-not-is_filled : goal.returns-then-not-is_filled
-returns-then-not-is_filled c = all-filled-at c.args.pieces.now _ _ c.loop-piece-test.true c.if-not-is_filled.ensures ∙ c.loop-piece.invariant
-
-pub loop-piece-preserved : goal.loop-piece-preserved
-loop-piece-preserved c = all-filled-at c.args.pieces.now _ _ c.loop-piece-test.true c.if-not-is_filled.ensures ∙ c.loop-piece.invariant
-
 pub returns : goal.returns
-returns c = sym (all-filled-all c.args.pieces.now _ c.loop-piece-test.false) ∙ c.loop-piece.invariant
+returns c =
+    all_from_yields_List (λ p. filled (bytes p)) _ _ _ c.all.ensures.ran (YieldsList-from_slice c.args.pieces.now cc) (λ x b q k. search (rules, tests))
+    ∙ sym (list_all-map filled bytes c.args.pieces.now)
