@@ -1,10 +1,12 @@
 -- Looking for a name among others.
-use Rattle.std.proofs.Common.{◌≡◌, ℕ, ◌+◌, ◌<◌, ◌≤◌, true, false, cond, ◌||◌, List, [], ◌∷◌, map, length, get_or, drop, is_some, Some, None, Ok, Option, sym, refl, ap, ◌∙◌, ⊎_elim, arith}
+use Rattle.std.proofs.Common.{◌≡◌, ℕ, ◌+◌, ◌<◌, true, false, cond, ◌||◌, List, [], ◌∷◌, map, length, get_or, drop, is_some, Some, None, Ok, Err, Option, Result, IfOk, sym, refl, ap, ◌∙◌, ⊎_elim, arith}
+use Rattle.std.specs.List.{list_any, position_from}
 use Rattle.std.specs.Str.{bytes_eq}
 use Rattle.std.proofs.lemmas.Slice.Eq.{bytes_eq-Decides}
-use Rattle.std.proofs.lemmas.List.{drop-map, drop_more, at_drop_all}
+use Rattle.std.proofs.lemmas.List.{drop-map, drop_more}
 use Rattle.std.proofs.lemmas.Bool.{cond-true, cond-false, cases_Bool, lt-ltb}
 use Rattle.names.specs.Spelled.{spelled}
+use Rattle.entries.specs.declared.fault.LineFault.{LineFault}
 use Rattle.tables.specs.declared.task.Task.{Task}
 use Rattle.tables.specs.Rows.{place_from, place_of, has, inside, row_names}
 use Rattle.tables.specs.Rowed.{rows}
@@ -19,16 +21,15 @@ drop-first {X} f all i x h is =
     drop-map f i all ∙ ap (map f) (drop_more all i x h) ∙ ap (λ (y : X). f y ∷ map f (drop (i + 1) all)) (sym is)
     ∙ ap (λ l. f x ∷ l) (sym (drop-map f (i + 1) all))
 
--- one of a list of things that have names
-module _ {X : Type 0} (f : X → List ℕ) (all : List X) (i : ℕ) (n : List ℕ) (x : X) (h : i < length all) (is : x ≡ get_or all i x) where
-  pub place_here : f x ≡ n → place_from i n (drop i (map f all)) ≡ Some i
-  place_here e = ap (place_from i n) (drop-first f all i x h is) ∙ cond-true (bytes_eq (f x) n) _ _ ((bytes_eq-Decides (f x) n).1 e)
+-- a name among those of a list of things
+module _ {X : Type 0} (f : X → List ℕ) (n : List ℕ) where
+  pub has-any : (all : List X) → list_any (λ x. bytes_eq (f x) n) all ≡ has n (map f all)
+  has-any [] = refl
+  has-any (x ∷ xs) = ap (λ b. bytes_eq (f x) n || b) (has-any xs)
 
-  pub place-later : (f x ≡ n → ⊥) → place_from i n (drop i (map f all)) ≡ place_from (i + 1) n (drop (i + 1) (map f all))
-  place-later ne = ap (place_from i n) (drop-first f all i x h is) ∙ cond-false (bytes_eq (f x) n) _ _ (different (f x) n ne)
-
-pub place-nowhere : (i : ℕ) (n : List ℕ) (ms : List (List ℕ)) → length ms ≤ i → place_from i n (drop i ms) ≡ None
-place-nowhere i n ms h = at_drop_all (place_from i n) ms i h
+  pub place-position : (i : ℕ) (all : List X) → position_from (λ x. bytes_eq (f x) n) i all ≡ place_from i n (map f all)
+  place-position i [] = refl
+  place-position i (x ∷ xs) = ap (cond (bytes_eq (f x) n) (Some i)) (place-position (i + 1) xs)
 
 -- what is there has a place
 pub has-place : (i : ℕ) (n : List ℕ) (ms : List (List ℕ)) → is_some (place_from i n ms) ≡ has n ms
@@ -60,3 +61,7 @@ resource-inside rs (Some n) g e = known_at (place_of n rs) refl e
     known_at (Some i) at e =
         let same : Some i ≡ g = cc in
         ap (inside (length rs)) (sym same) ∙ lt-ltb i (length rs) (omega (arith, place_inside 0 i n rs at))
+
+pub resource_within : (rs : List (List ℕ)) (name : Option (List ℕ)) (answer : Result (Option ℕ) LineFault) → answer ≡ resource_for rs name → IfOk answer (λ g. inside (length rs) g ≡ true)
+resource_within rs name (Ok g) e = resource-inside rs name g (sym e)
+resource_within rs name (Err x) e = tt

@@ -2,6 +2,5 @@ pub mod Rows
 pub mod Rowed
 pub mod Listed
 pub mod Reading
-pub mod Grown
 pub mod Refusals
 pub mod Told

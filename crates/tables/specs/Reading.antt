@@ -15,8 +15,8 @@ use Rattle.texts.specs.Lines.{lines}
 use Rattle.entries.specs.declared.fault.LineFault.{LineFault}
 use Rattle.entries.specs.declared.fault.LineFault.TheVariants.{Full, Twice, Unknown, Unmatched, Overfull}
 use Rattle.entries.specs.Entries.{Entry, ◌then◌, resource_line, task_line}
-use Rattle.tables.specs.declared.fault.ReadFault.{ReadFault}
-use Rattle.tables.specs.declared.fault.ReadFault.TheVariants.{Long, Line}
+use Rattle.tables.specs.declared.fault.Refusal.{Refusal}
+use Rattle.tables.specs.declared.fault.Refusal.TheVariants.{Long, Line}
 use Rattle.tables.specs.Rows.{Row, Listing, row_names, has, place_of, placed}
 
 abbrev pub with_resource : Listing → List ℕ → Result Listing LineFault
@@ -68,11 +68,7 @@ read_line Resources t line = resource_line line then with_resource t
 read_line Tasks t line = task_line line then with_entry t
 
 -- a line's fault with its text and number
-abbrev pub at_line : {X : Type 0} → Text → ℕ → Result X LineFault → Result X ReadFault
-at_line text k (Ok x) = Ok x
-at_line text k (Err e) = Err (Line text k e)
-
-abbrev pub read_lines : Text → ℕ → Listing → List (List ℕ) → Result Listing ReadFault
+abbrev pub read_lines : Text → ℕ → Listing → List (List ℕ) → Result Listing Refusal
 read_lines text k t [] = Ok t
 read_lines text k t (l ∷ ls) = elim (read_line text t l) [ Ok u ↦ read_lines text (k + 1) u ls | Err e ↦ Err (Line text k e) ]
 
@@ -80,10 +76,10 @@ read_lines text k t (l ∷ ls) = elim (read_line text t l) [ Ok u ↦ read_lines
 abbrev pub empty_table : Listing
 empty_table = record { resources = []; tasks = [] }
 
-abbrev pub within_limit : Text → List ℕ → Result Unit ReadFault
+abbrev pub within_limit : Text → List ℕ → Result Unit Refusal
 within_limit text bytes = cond (nat_lt 32768 (length bytes)) (Err (Long text)) (Ok tt)
 
-abbrev pub read_of : List ℕ → List ℕ → Result Listing ReadFault
+abbrev pub read_of : List ℕ → List ℕ → Result Listing Refusal
 read_of resources tasks =
     within_limit Resources resources then (λ _.
     within_limit Tasks tasks then (λ _.

@@ -1,27 +1,27 @@
 ghost use Rattle.std.specs.Prelude.{◌≡◌};
-ghost use Rattle.tables.specs.Refusals.{refusal_of, told};
-ghost use Rattle.tables.specs.declared.fault.ReadFault.TheVariants.{Line, Memory};
+ghost use Rattle.tables.specs.Refusals.{fault_at, number_of, refusal_of, refused_at};
+ghost use Rattle.tables.specs.declared.fault.ReadFault.TheVariants.{Memory, Refused};
 
-use entries::{At, LineFault};
+use entries::{At, LineError, LineFault};
 use std::alloc::AllocError;
 use texts::{Place, Text};
 
-// Why no table was read.
+// Why two texts declare no table.
 #[derive(Clone, Copy, Debug, PartialEq, Eq)]
-pub enum ReadFault {
+pub enum Refusal {
     // The text is too long.
     Long(Text),
     // The line of this number in this text is at fault.
     Line(Text, usize, LineFault),
-    // Memory was wanting.
-    Memory,
 }
 
-// A refusal by its number, and the place of what is refused.
+// Why no table was read.
 #[derive(Clone, Copy, Debug, PartialEq, Eq)]
-pub struct Refusal {
-    pub number: u8,
-    pub place: Place,
+pub enum ReadFault {
+    // The texts declare none.
+    Refused(Refusal),
+    // Memory was wanting.
+    Memory,
 }
 
 // A line, by its text and its number.
@@ -31,11 +31,24 @@ pub struct LinePlace {
     pub line: usize,
 }
 
-impl From<At<LinePlace, LineFault>> for ReadFault {
-    ghost from_gives = { λ e r. r ≡ Line e.place.text e.place.line e.fault };
+impl From<Refusal> for ReadFault {
+    ghost from_gives = { λ e r. r ≡ Refused e };
 
-    fn from(e: At<LinePlace, LineFault>) -> ReadFault {
-        ReadFault::Line(e.place.text, e.place.line, e.fault)
+    fn from(e: Refusal) -> ReadFault {
+        ReadFault::Refused(e)
+    }
+}
+
+impl From<At<LinePlace, LineError>> for ReadFault {
+    ghost from_gives = { λ e r. r ≡ fault_at e.place e.fault };
+
+    fn from(e: At<LinePlace, LineError>) -> ReadFault {
+        match e.fault {
+            LineError::Fault(fault) => {
+                ReadFault::Refused(Refusal::Line(e.place.text, e.place.line, fault))
+            }
+            LineError::Memory => ReadFault::Memory,
+        }
     }
 }
 
@@ -47,19 +60,42 @@ impl From<AllocError> for ReadFault {
     }
 }
 
-// A line's fault by its number, and the field and the byte that it tells.
-fn tell(fault: &LineFault) -> (u8, usize, usize)
-    ensures { result ≡ told fault.now }
-{
-    match fault {
-        LineFault::Form => (2, 0, 0),
-        LineFault::Figure(field) => (3, *field, 0),
-        LineFault::Name(field, fault) => (4, *field, fault.byte()),
-        LineFault::Twice => (5, 0, 0),
-        LineFault::Unknown => (6, 0, 0),
-        LineFault::Full => (7, 0, 0),
-        LineFault::Unmatched => (8, 0, 0),
-        LineFault::Overfull => (9, 0, 0),
+impl Refusal {
+    // The number of the refusal.
+    pub fn number(&self) -> u8
+        ensures { result ≡ number_of self.now }
+    {
+        match self {
+            Refusal::Long(_) => 1,
+            Refusal::Line(_, _, LineFault::Form) => 2,
+            Refusal::Line(_, _, LineFault::Figure(_)) => 3,
+            Refusal::Line(_, _, LineFault::Name(_, _)) => 4,
+            Refusal::Line(_, _, LineFault::Twice) => 5,
+            Refusal::Line(_, _, LineFault::Unknown) => 6,
+            Refusal::Line(_, _, LineFault::Full) => 7,
+            Refusal::Line(_, _, LineFault::Unmatched) => 8,
+            Refusal::Line(_, _, LineFault::Overfull) => 9,
+        }
+    }
+
+    // The place of what is refused.
+    pub fn place(&self) -> Place
+        ensures { result ≡ refused_at self.now }
+    {
+        let (text, line, field, byte) = match *self {
+            Refusal::Long(text) => (text, 0, 0, 0),
+            Refusal::Line(text, line, LineFault::Figure(field)) => (text, line, field, 0),
+            Refusal::Line(text, line, LineFault::Name(field, fault)) => {
+                (text, line, field, fault.byte())
+            }
+            Refusal::Line(text, line, _) => (text, line, 0, 0),
+        };
+        Place {
+            text,
+            line,
+            field,
+            byte,
+        }
     }
 }
 
@@ -68,22 +104,9 @@ impl ReadFault {
     pub fn refusal(&self) -> Option<Refusal>
         ensures { result ≡ refusal_of self.now }
     {
-        let (number, text, line, field, byte) = match self {
-            ReadFault::Long(text) => (1, *text, 0, 0, 0),
-            ReadFault::Line(text, line, fault) => {
-                let (number, field, byte) = tell(fault);
-                (number, *text, *line, field, byte)
-            }
-            ReadFault::Memory => return None,
-        };
-        Some(Refusal {
-            number,
-            place: Place {
-                text,
-                line,
-                field,
-                byte,
-            },
-        })
+        match self {
+            ReadFault::Refused(refusal) => Some(*refusal),
+            ReadFault::Memory => None,
+        }
     }
 }

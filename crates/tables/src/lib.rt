@@ -2,7 +2,6 @@
 #![tactic(auto)]
 
 mod fault;
-mod naming;
 mod table;
 mod task;
 

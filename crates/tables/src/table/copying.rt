@@ -21,13 +21,14 @@ fn copy_tasks(tasks: &Vec<Task>) -> Result<Vec<Task>, AllocError>
     tasks.clone()
 }
 
-// A copy has the rows of its table.
+// A copy has the rows of its table. No derive writes it for a struct with ghost fields.
 impl Clone for Table {
     ghost is_clone = { λ t u. listed u ≡ listed t };
 
     fn clone(&self) -> Result<Table, AllocError> {
-        let resources = copy_names(&self.resources)?;
-        let tasks = copy_tasks(&self.tasks)?;
-        Ok(Table { resources, tasks })
+        Ok(Table {
+            resources: copy_names(&self.resources)?,
+            tasks: copy_tasks(&self.tasks)?,
+        })
     }
 }

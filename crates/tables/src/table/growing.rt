@@ -2,19 +2,19 @@ ghost use Rattle.std.specs.Prelude.{◌≡◌, ◌<◌, true, false, [], map, le
 ghost use Rattle.std.specs.Option.{option_map};
 ghost use Rattle.names.specs.Spelled.{spelled};
 ghost use Rattle.entries.specs.Said.{entered};
-ghost use Rattle.tables.specs.Grown.{Grown};
+ghost use Rattle.entries.specs.Told.{Told};
 ghost use Rattle.tables.specs.Listed.{listed};
-ghost use Rattle.tables.specs.Reading.{empty_table, fitted, resource_for, place_for, with_entry, with_resource, with_task};
+ghost use Rattle.tables.specs.Reading.{empty_table, fitted, resource_for, place_for, read_line, with_entry, with_resource, with_task};
 ghost use Rattle.tables.specs.Rowed.{row_of, rowed, rows};
-ghost use Rattle.tables.specs.Rows.{has, inside, row_names, spot};
+ghost use Rattle.tables.specs.Rows.{has, inside, place_of, rising, row_names, spot};
 
-use crate::naming::find;
 use crate::table::Table;
 use crate::task::Task;
-use entries::{Entry, LineFault};
+use entries::{Entry, LineError, LineFault, parse_resource, parse_task};
 use fields::Ticks;
 use names::Name;
 use std::alloc::{AllocError, Global};
+use texts::Text;
 
 const MOST_RESOURCES: usize = 32;
 
@@ -22,14 +22,10 @@ const MOST_TASKS: usize = 64;
 
 // How many tasks come before a new one of that period: those of a lesser period, and those of the same.
 fn spot_of(tasks: &[Task], period: Ticks) -> usize
+    requires { rising (rows tasks.now) ≡ true }
     ensures { result ≡ spot period (rows tasks.now) }
 {
-    for (i, task) in tasks.iter().enumerate() {
-        if period < task.period {
-            return i;
-        }
-    }
-    tasks.len()
+    tasks.partition_point(|task| task.period <= period)
 }
 
 // The entry as a task, unless its lengths and its resource do not fit together.
@@ -76,27 +72,34 @@ impl Table {
     fn has_resource(&self, name: &Name) -> bool
         ensures { result ≡ has (spelled name.now) (listed self.now).resources }
     {
-        find(self.resources.as_slice(), name.as_bytes()).is_some()
+        self.resources.contains(name)
     }
 
     fn has_task(&self, name: &Name) -> bool
         ensures { result ≡ has (spelled name.now) (row_names (listed self.now).tasks) }
     {
-        find(self.tasks.as_slice(), name.as_bytes()).is_some()
+        self.tasks.iter().any(|task| task.name == *name)
     }
 
     // One resource more, after the others.
-    pub(super) fn add_resource(&mut self, name: Name) -> Result<Result<(), LineFault>, AllocError>
-        ensures { Grown result (listed self.new) (with_resource (listed self.old) (spelled name)) }
+    fn add_resource(&mut self, name: Name) -> Result<(), LineError>
+        ensures { Told result (λ _. listed self.new) (with_resource (listed self.old) (spelled name)) }
     {
         if self.resources.len() >= MOST_RESOURCES {
-            return Ok(Err(LineFault::Full));
+            return Err(LineError::Fault(LineFault::Full));
         }
         if self.has_resource(&name) {
-            return Ok(Err(LineFault::Twice));
+            return Err(LineError::Fault(LineFault::Twice));
         }
         self.resources.push(name)?;
-        Ok(Ok(()))
+        Ok(())
+    }
+
+    // The place of the resource of that name.
+    fn place_of(&self, name: &Name) -> Option<usize>
+        ensures { result ≡ place_of (spelled name.now) (listed self.now).resources }
+    {
+        self.resources.iter().position(|one| *one == *name)
     }
 
     // The place of the resource that an entry names.
@@ -104,12 +107,9 @@ impl Table {
         ensures value { result ≡ resource_for (listed self.now).resources (option_map spelled entry.now.resource) }
         ensures known { IfOk result (λ g. inside (length (listed self.now).resources) g ≡ true) }
     {
-        let Some(name) = &entry.resource else {
-            return Ok(None);
-        };
-        match find(self.resources.as_slice(), name.as_bytes()) {
-            Some(place) => Ok(Some(place)),
-            None => Err(LineFault::Unknown),
+        match &entry.resource {
+            Some(name) => self.place_of(name).map(Some).ok_or(LineFault::Unknown),
+            None => Ok(None),
         }
     }
 
@@ -140,18 +140,27 @@ impl Table {
     }
 
     // One task more, unless the table refuses it.
-    pub(super) fn add_task(&mut self, entry: Entry) -> Result<Result<(), LineFault>, AllocError>
-        ensures { Grown result (listed self.new) (with_entry (listed self.old) (entered entry)) }
+    fn add_task(&mut self, entry: Entry) -> Result<(), LineError>
+        ensures { Told result (λ _. listed self.new) (with_entry (listed self.old) (entered entry)) }
     {
-        let resource = match self.place_for(&entry) {
-            Ok(resource) => resource,
-            Err(fault) => return Ok(Err(fault)),
-        };
-        let task = match fit(entry, resource) {
-            Ok(task) => task,
-            Err(fault) => return Ok(Err(fault)),
-        };
+        let resource = self.place_for(&entry)?;
+        let task = fit(entry, resource)?;
         self.insert(task)?;
-        Ok(Ok(()))
+        Ok(())
+    }
+
+    // The table with what one line more declares.
+    pub(super) fn read_line(
+        &mut self,
+        heap: Global,
+        text: Text,
+        line: &[u8],
+    ) -> Result<(), LineError>
+        ensures { Told result (λ _. listed self.new) (read_line text (listed self.old) line.now) }
+    {
+        match text {
+            Text::Resources => self.add_resource(parse_resource(heap, line)?),
+            Text::Tasks => self.add_task(parse_task(heap, line)?),
+        }
     }
 }

@@ -1,11 +1,11 @@
-use Rattle.std.proofs.Common.{map, is_some, vec_items, ap, ◌∙◌}
+use Rattle.std.proofs.Common.{vec_items, ap, ◌∙◌}
+use Rattle.std.specs.List.{list_any}
+use Rattle.std.specs.Str.{bytes_eq}
+use Rattle.names.specs.declared.name.Name.{Name}
 use Rattle.names.specs.Spelled.{spelled}
-use Rattle.tables.specs.Rows.{place_of}
-use Rattle.tables.specs.Rowed.{called}
-use Rattle.tables.proofs.Places.{has-place}
+use Rattle.tables.proofs.Places.{has-any}
 use Rattle.tables.proofs.table.Table.has_resource.Goals as goal
 
 pub returns : goal.returns
 returns c =
-    c.is_some.ensures ∙ ap is_some c.find.ensures
-    ∙ (λ i. is_some (place_of (c.as_bytes.ensures i) (map spelled (c.as_slice.ensures.value i)))) ∙ has-place 0 (spelled c.args.name.now) (called (vec_items c.args.self.now.resources))
+    c.contains.ensures.value ∙ ap (list_any (λ (m : Name). bytes_eq (spelled m) (spelled c.args.name.now))) c.deref.ensures.value ∙ has-any spelled (spelled c.args.name.now) (vec_items c.args.self.now.resources)

@@ -1,21 +1,11 @@
-use Rattle.std.proofs.Common.{arith}
-use Rattle.std.proofs.lemmas.List.{length-map}
-use Rattle.tables.specs.Rowed.{row_of, rows}
-use Rattle.tables.proofs.Insertion.{spot-here, spot-later, spot-end}
+use Rattle.std.proofs.Common.{leb, rules}
+use Rattle.std.proofs.lemmas.List.Sorted.{IsPartitionPoint-from_clause, IsPartitionedBy-leb}
+use Rattle.tables.specs.declared.task.Task.{Task}
+use Rattle.tables.proofs.Insertion.{rising-periods, spot-point}
 use Rattle.tables.proofs.table.growing.spot_of.Goals as goal
-
-pub returns-then-period-task : goal.returns-then-period-task
-returns-then-period-task c =
-    let e = spot-here c.args.period c.args.tasks.now c.loop-i.i c.index-tasks-i.result c.loop-i-test.true c.index-tasks-i.is c.if-period-task.true in
-    omega (arith, c.loop-i.invariant)
-
-pub loop-i-preserved : goal.loop-i-preserved
-loop-i-preserved c =
-    let e = spot-later c.args.period c.args.tasks.now c.loop-i.i c.index-tasks-i.result c.loop-i-test.true c.index-tasks-i.is c.if-period-task.false in
-    omega (arith, c.loop-i.invariant)
 
 pub returns : goal.returns
 returns c =
-    let long = length-map c.args.tasks.now row_of in
-    let e = spot-end c.args.period (rows c.args.tasks.now) c.loop-i.i (omega arith) in
-    omega (arith, c.loop-i.invariant)
+    let parted = IsPartitionedBy-leb (λ (t : Task). t.period) _ c.args.period (rising-periods c.args.tasks.now c.requires) in
+    let point = IsPartitionPoint-from_clause (λ (t : Task). leb t.period c.args.period) _ _ c.partition_point.ensures.partitioned parted (λ a r q k. search rules) in
+    spot-point c.args.period c.args.tasks.now c.partition_point.result c.partition_point.ensures.bound point
