@@ -1,5 +1,5 @@
 -- What every round keeps.
-use Rattle.std.proofs.Common.{◌≡◌, ℕ, zero, suc, ◌+◌, ◌-◌, ◌*◌, ◌<◌, ◌≤◌, List, [], ◌∷◌, length, get_or, set, replicate, refl, ◌∙◌, add-one, arith}
+use Rattle.std.proofs.Common.{◌≡◌, ℕ, zero, suc, ◌+◌, ◌-◌, ◌*◌, ◌<◌, ◌≤◌, List, [], ◌∷◌, length, map, get_or, set, replicate, refl, ap, ◌∙◌, add-one, arith}
 use Rattle.std.proofs.lemmas.List.{length-replicate, length-set}
 use Rattle.spreading.specs.Charted.{Ready}
 use Rattle.spreading.specs.Spreading.{heaviest, lightest, rounds, seat_next}
@@ -11,6 +11,10 @@ at_set P (x ∷ xs) zero zero y d new old = new
 at_set P (x ∷ xs) zero (suc j) y d new old = old
 at_set P (x ∷ xs) (suc i) zero y d new old = old
 at_set P (x ∷ xs) (suc i) (suc j) y d new old = at_set P xs i j y d new old
+
+pub map-replicate : {X Y : Type 0} (f : X → Y) (n : ℕ) (x : X) → map f (replicate n x) ≡ replicate n (f x)
+map-replicate f zero x = refl
+map-replicate f (suc n) x = ap (λ xs. f x ∷ xs) (map-replicate f n x)
 
 replicated : (q p : ℕ) → ◌≡◌ {A = ℕ} (get_or (replicate q 0) p 0) 0
 replicated zero p = refl

@@ -3,38 +3,33 @@ use Rattle.std.proofs.Common.{◌≡◌, ℕ, zero, suc, ◌+◌, ◌<◌, ◌�
 use Rattle.std.proofs.lemmas.List.{get_or-replicate, get_or-set_same, get_or-set_other, set-get_or}
 use Rattle.std.proofs.lemmas.Bool.{both_ways, cases_Bool, cases_eq}
 use Rattle.std.proofs.lemmas.Bool.Decides.{nat_tests}
+use Rattle.std.specs.List.{sum_by}
+use Rattle.std.proofs.lemmas.List.Sums.{get_or-le-sum_by, sum_by-cons, sum_by-set}
 use Rattle.spreading.specs.Placed.{AllPlaced, taker, turn}
 use Rattle.spreading.specs.Spreading.{first_best, goes_first, rounds, seats_for}
 use Rattle.spreading.proofs.FirstBest.{best-within}
 use Rattle.spreading.proofs.Rounds.{seats-length, seated-length}
 
--- how many have no seat yet
+-- how many have no seat yet: the sum of 1 for each
+abbrev waiting : Bool → ℕ
+waiting seated = cond (not seated) 1 0
+
 abbrev left : List Bool → ℕ
-left [] = 0
-left (true ∷ s) = left s
-left (false ∷ s) = suc (left s)
+left s = sum_by waiting s
 
 left-none : (s : List Bool) → ((k : ℕ) → k < length s → get_or s k false ≡ true) → left s ≡ 0
 left-none [] all = refl
-left-none (true ∷ s) all = left-none s (λ k h. all (suc k) (omega arith))
-left-none (false ∷ s) all = absurd (both_ways false refl (all 0 (omega arith)))
+left-none (b ∷ s) all = omega (arith, sum_by-cons waiting b s, ap waiting (all 0 (omega arith)), left-none s (λ k h. all (suc k) (omega arith)))
 
 none_left : (s : List Bool) → left s ≡ 0 → (k : ℕ) → k < length s → get_or s k false ≡ true
-none_left [] e k h = absurd (omega arith)
-none_left (true ∷ s) e zero h = refl
-none_left (true ∷ s) e (suc k) h = none_left s e k (omega arith)
-none_left (false ∷ s) e k h = absurd (omega arith)
+none_left s e k h = ⊎_elim (λ full. full) (λ (free : get_or s k false ≡ false). absurd (omega (arith, ap waiting free, get_or-le-sum_by waiting s k false h))) (cases_Bool (get_or s k false))
 
 left-start : (n : ℕ) → left (replicate n false) ≡ n
 left-start zero = refl
-left-start (suc n) = ap suc (left-start n)
+left-start (suc n) = omega (arith, sum_by-cons waiting false (replicate n false), left-start n)
 
 left-set : (s : List Bool) (r : ℕ) → r < length s → get_or s r false ≡ false → left (set s r true) + 1 ≡ left s
-left-set [] r h free = absurd (omega arith)
-left-set (true ∷ s) zero h free = absurd (both_ways true free refl)
-left-set (false ∷ s) zero h free = omega arith
-left-set (true ∷ s) (suc r) h free = left-set s r (omega arith) free
-left-set (false ∷ s) (suc r) h free = omega (arith, left-set s r (omega arith) free)
+left-set s r h free = omega (arith, sum_by-set waiting s r true false h, ap waiting free)
 
 -- a choice between two that has a seat shows that both have one
 both-seated : (at : ℕ → Bool) (n b : ℕ) (more : Bool) → at (cond (not (at n) && (at b || more)) n b) ≡ true → (at n ≡ true) × (at b ≡ true)

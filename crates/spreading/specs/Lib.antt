@@ -1,3 +1,4 @@
 pub mod Spreading
 pub mod Placed
 pub mod Charted
+pub mod Choosing

@@ -17,11 +17,9 @@ mod chart;
 fn loads(heap: Global, table: &Table) -> Result<Vec<u64>, AllocError>
     ensures { IfOk result (λ all. all.items ≡ loads (listed table.now)) }
 {
-    let mut all = Vec::new(heap);
-    for place in 0..table.resources().len() {
-        all.push(load(table, place))?;
-    }
-    Ok(all)
+    (0..table.resources().len())
+        .map(|place| load(table, place))
+        .collect(heap)
 }
 
 // The seats of resources with these loads, after one round for each.
@@ -29,12 +27,11 @@ fn seat_all(heap: Global, loads: &[u64], processors: u8, syncs: u8) -> Result<Ve
     ensures value { IfOk result (λ seats. seats.items ≡ seats_for loads.now processors syncs) }
     ensures placed { IfOk result (λ seats. AllPlaced loads.now processors syncs seats.items) }
 {
-    let first = processors.saturating_sub(syncs);
-    let mut chart = Chart::blank(heap, loads.len(), first, syncs)?;
-    for _round in 0..loads.len() {
-        chart.seat_next(loads, first);
+    let mut chart = Chart::blank(heap, loads.len(), processors, syncs)?;
+    for _ in loads {
+        chart.seat_next(loads);
     }
-    Ok(chart.seats)
+    chart.all_seats(heap)
 }
 
 // The processor of each resource, by place: the heaviest resource first, each goes to the lightest of the

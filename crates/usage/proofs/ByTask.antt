@@ -1,32 +1,32 @@
--- Going through the users of a resource, task by task.
-use Rattle.std.proofs.Common.{◌≡◌, ℕ, ◌+◌, ◌<◌, ◌≤◌, true, false, List, length, get_or, drop, Some, None, ap, ◌∙◌, arith}
-use Rattle.std.proofs.lemmas.List.{at_drop_all}
-use Rattle.std.proofs.lemmas.Bool.{cond-true, cond-false}
+-- What chains over tasks answer, as the definitions over rows.
+use Rattle.std.proofs.Common.{◌≡◌, ℕ, ◌+◌, Bool, true, false, cond, List, [], ◌∷◌, Some, refl, ap, ◌∙◌, arith}
+use Rattle.std.specs.List.{count_by, filter, position, position_from, sum_by}
+use Rattle.std.proofs.lemmas.Iterator.Adapters.{position_from-zero}
+use Rattle.std.proofs.lemmas.List.Sums.{sum_by-cons}
 use Rattle.tables.specs.declared.task.Task.{Task}
-use Rattle.tables.specs.Rows.{Row}
 use Rattle.tables.specs.Rowed.{row_of, rows}
-use Rattle.usage.specs.Usage.{uses, over_users, first_user}
-use Rattle.tables.proofs.Insertion.{row_first}
+use Rattle.usage.specs.Usage.{ceiling, first_user, load, share, users, uses}
 
-module _ (resource : ℕ) (all : List Task) (i : ℕ) (x : Task) (h : i < length all) (is : x ≡ get_or all i x) where
-  pub first-here : uses resource (row_of x) ≡ true → first_user i resource (drop i (rows all)) ≡ Some i
-  first-here u = ap (first_user i resource) (row_first all i x h is) ∙ cond-true (uses resource (row_of x)) _ _ u
+-- a task at the front adds its share, if it is kept
+share_kept : (kept : Bool) (task : Task) (all : List Task) → sum_by (λ t. share (row_of t)) (cond kept (task ∷ all) all) ≡ cond kept (share (row_of task)) 0 + sum_by (λ t. share (row_of t)) all
+share_kept true task all = sum_by-cons (λ t. share (row_of t)) task all
+share_kept false task all = omega arith
 
-  pub first-later : uses resource (row_of x) ≡ false → first_user i resource (drop i (rows all)) ≡ first_user (i + 1) resource (drop (i + 1) (rows all))
-  first-later u = ap (first_user i resource) (row_first all i x h is) ∙ cond-false (uses resource (row_of x)) _ _ u
+module _ (resource : ℕ) where
+  abbrev is_user : Task → Bool
+  is_user task = uses resource (row_of task)
 
-  pub over-user : (f : Row → ℕ) → uses resource (row_of x) ≡ true → over_users f resource (drop i (rows all)) ≡ f (row_of x) + over_users f resource (drop (i + 1) (rows all))
-  over-user f u =
-      ap (over_users f resource) (row_first all i x h is)
-      ∙ ap (λ n. n + over_users f resource (drop (i + 1) (rows all))) (cond-true (uses resource (row_of x)) (f (row_of x)) 0 u)
+  first-from : (k : ℕ) (all : List Task) → position_from is_user k all ≡ first_user k resource (rows all)
+  first-from k [] = refl
+  first-from k (task ∷ all) = ap (cond (is_user task) (Some k)) (first-from (k + 1) all)
 
-  pub over-other : (f : Row → ℕ) → uses resource (row_of x) ≡ false → over_users f resource (drop i (rows all)) ≡ over_users f resource (drop (i + 1) (rows all))
-  over-other f u =
-      ap (over_users f resource) (row_first all i x h is)
-      ∙ (ap (λ n. n + over_users f resource (drop (i + 1) (rows all))) (cond-false (uses resource (row_of x)) (f (row_of x)) 0 u) ∙ omega arith)
+  pub first-of : (all : List Task) → position is_user all ≡ ceiling resource (rows all)
+  first-of all = position_from-zero is_user all ∙ first-from 0 all
 
-pub first-none : (resource i : ℕ) (rs : List Row) → length rs ≤ i → first_user i resource (drop i rs) ≡ None
-first-none resource i rs h = at_drop_all (first_user i resource) rs i h
+  pub count-of : (all : List Task) → count_by is_user all ≡ users resource (rows all)
+  count-of [] = refl
+  count-of (task ∷ all) = omega (arith, sum_by-cons (λ t. cond (is_user t) 1 0) task all, count-of all)
 
-pub over_none : (f : Row → ℕ) (resource i : ℕ) (rs : List Row) → length rs ≤ i → over_users f resource (drop i rs) ≡ 0
-over_none f resource i rs h = at_drop_all (over_users f resource) rs i h
+  pub sum-of : (all : List Task) → sum_by (λ t. share (row_of t)) (filter is_user all) ≡ load resource (rows all)
+  sum-of [] = refl
+  sum-of (task ∷ all) = share_kept (is_user task) task (filter is_user all) ∙ ap (λ n. cond (is_user task) (share (row_of task)) 0 + n) (sum-of all)

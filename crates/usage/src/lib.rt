@@ -12,10 +12,7 @@ use tables::{Table, Task};
 fn is_user(task: &Task, resource: usize) -> bool
     ensures { result ≡ uses resource (row_of task.now) }
 {
-    match task.resource {
-        Some(place) => place == resource,
-        None => false,
-    }
+    task.resource == Some(resource)
 }
 
 // A task's critical length in millionths of its period, rounded up.
@@ -29,37 +26,24 @@ fn share_of(task: &Task) -> u64
 fn first_user(tasks: &[Task], resource: usize) -> Option<usize>
     ensures { result ≡ ceiling resource (rows tasks.now) }
 {
-    for (rank, task) in tasks.iter().enumerate() {
-        if is_user(task, resource) {
-            return Some(rank);
-        }
-    }
-    None
+    tasks.iter().position(|task| is_user(task, resource))
 }
 
 fn count_users(tasks: &[Task], resource: usize) -> usize
     ensures { result ≡ users resource (rows tasks.now) }
 {
-    let mut count = 0;
-    for task in tasks {
-        if is_user(task, resource) {
-            count += 1;
-        }
-    }
-    count
+    tasks.iter().filter(|task| is_user(task, resource)).count()
 }
 
 fn sum_shares(tasks: &[Task], resource: usize) -> u64
     requires { length tasks.now ≤ 64 }
     ensures { result ≡ load resource (rows tasks.now) }
 {
-    let mut sum = 0;
-    for task in tasks {
-        if is_user(task, resource) {
-            sum += share_of(task);
-        }
-    }
-    sum
+    tasks
+        .iter()
+        .filter(|task| is_user(task, resource))
+        .map(share_of)
+        .sum()
 }
 
 // The best rank among the users of the resource at that place; none without users.

@@ -1,20 +1,12 @@
-use Rattle.std.proofs.Common.{sym, ◌∙◌, arith}
-use Rattle.std.proofs.lemmas.List.{length-map}
-use Rattle.tables.specs.Rowed.{row_of, rows}
-use Rattle.usage.proofs.ByTask.{first-here, first-later, first-none}
+use Rattle.std.proofs.Common.{rules, ◌∙◌}
+use Rattle.std.proofs.lemmas.Iterator.{YieldsList-from_slice}
+use Rattle.std.proofs.lemmas.Iterator.Search.{position_from_yields_List}
+use Rattle.tables.specs.Rowed.{row_of}
+use Rattle.usage.specs.Usage.{uses}
+use Rattle.usage.proofs.ByTask.{first-of}
 use Rattle.usage.proofs.first_user.Goals as goal
-
-pub returns-then-is_user : goal.returns-then-is_user
-returns-then-is_user c =
-    sym (first-here c.args.resource c.args.tasks.now c.loop-rank.rank c.index-tasks-rank.result c.loop-rank-test.true c.index-tasks-rank.is (sym c.if-is_user.ensures))
-    ∙ c.loop-rank.invariant
-
-pub loop-rank-preserved : goal.loop-rank-preserved
-loop-rank-preserved c =
-    sym (first-later c.args.resource c.args.tasks.now c.loop-rank.rank c.index-tasks-rank.result c.loop-rank-test.true c.index-tasks-rank.is (sym c.if-is_user.ensures))
-    ∙ c.loop-rank.invariant
 
 pub returns : goal.returns
 returns c =
-    let long = length-map c.args.tasks.now row_of in
-    sym (first-none c.args.resource c.loop-rank.rank (rows c.args.tasks.now) (omega arith)) ∙ c.loop-rank.invariant
+    position_from_yields_List (λ t. uses c.args.resource (row_of t)) _ _ _ c.position.ensures.ran (YieldsList-from_slice c.args.tasks.now cc) (λ x b q k. search rules)
+    ∙ first-of c.args.resource c.args.tasks.now

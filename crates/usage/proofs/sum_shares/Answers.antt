@@ -1,24 +1,16 @@
-use Rattle.std.proofs.Common.{sym, arith}
-use Rattle.std.proofs.lemmas.List.{length-map}
-use Rattle.tables.specs.Rowed.{row_of, rows}
-use Rattle.usage.specs.Usage.{share}
-use Rattle.usage.proofs.ByTask.{over-user, over-other, over_none}
+use Rattle.std.proofs.Common.{rules, ◌∙◌}
+use Rattle.std.specs.List.{filter}
+use Rattle.std.proofs.lemmas.Iterator.{YieldsList-from_map, YieldsList-from_slice}
+use Rattle.std.proofs.lemmas.Iterator.Consumers.{YieldsList-at, YieldsList-from_filter, sum_by_from_yields_List}
+use Rattle.tables.specs.Rowed.{row_of}
+use Rattle.tables.specs.declared.task.Task.{Task}
+use Rattle.usage.specs.Usage.{share, uses}
+use Rattle.usage.proofs.ByTask.{sum-of}
 use Rattle.usage.proofs.sum_shares.Goals as goal
-use Rattle.usage.proofs.sum_shares.Goals.{then-is_user, else-is_user}
-
-pub loop-task-preserved : goal.loop-task-preserved
-loop-task-preserved c =
-    elim c.if-is_user.branch [
-      | then-is_user w ↦
-          let e = over-user c.args.resource c.args.tasks.now c.loop-task.task-index c.task-item.result c.loop-task-test.true c.task-item.is share (sym w.if-is_user.ensures) in
-          (omega (arith, w.sum-is), omega (arith, w.sum-is))
-      | else-is_user w ↦
-          let e = over-other c.args.resource c.args.tasks.now c.loop-task.task-index c.task-item.result c.loop-task-test.true c.task-item.is share (sym w.if-is_user.ensures) in
-          (omega (arith, w.sum-is), omega (arith, w.sum-is))
-    ]
 
 pub returns : goal.returns
 returns c =
-    let long = length-map c.args.tasks.now row_of in
-    let e = over_none share c.args.resource c.loop-task.task-index (rows c.args.tasks.now) (omega arith) in
-    omega arith
+    let is_user = λ (t : Task). uses c.args.resource (row_of t) in
+    sum_by_from_yields_List (λ t. share (row_of t)) (filter is_user c.args.tasks.now) c.map.result _ c.sum.ensures.ran
+    (YieldsList-from_map _ (λ t. share (row_of t)) (YieldsList-at c.map.ensures.source (YieldsList-from_filter _ is_user (YieldsList-at c.filter.ensures.source (YieldsList-from_slice c.args.tasks.now cc)) c.filter.ensures.closure (λ x b q k. search rules))) c.map.ensures.closure (λ x r q k. search rules))
+    ∙ sum-of c.args.resource c.args.tasks.now
