@@ -33,18 +33,16 @@ fn taken_by_all(terms: &[Term], t: u64) -> u64
     ensures value { result ≡ interference terms.now t }
     ensures bound { result ≤ 128 * longest }
 {
-    let mut sum = 0;
-    for term in terms {
-        sum += taken_by(term, t);
-    }
-    sum
+    terms.iter().map(|term| term.taken(t)).sum()
 }
 
-// The length for each period that begins within t ticks.
-fn taken_by(term: &Term, t: u64) -> u64
-    requires { t ≤ longest }
-    ensures value { result ≡ taken term.now t }
-    ensures bound { result ≤ 2 * longest }
-{
-    t.div_ceil(term.period) * term.length
+impl Term {
+    // What the task takes within t ticks: its length for each period that begins in them.
+    fn taken(&self, t: u64) -> u64
+        requires { t ≤ longest }
+        ensures value { result ≡ taken self.now t }
+        ensures bound { result ≤ 2 * longest }
+    {
+        t.div_ceil(self.period) * self.length
+    }
 }

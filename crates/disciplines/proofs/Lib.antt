@@ -1,3 +1,2 @@
+pub mod Firsts
 pub mod Kept
-pub mod Sections
-pub mod Turns

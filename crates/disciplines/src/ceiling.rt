@@ -4,8 +4,8 @@ ghost use Rattle.disciplines.specs.Chosen.{chosen};
 ghost use Rattle.disciplines.specs.Supplied.{under_ceiling};
 ghost use Rattle.std.proofs.Common.{rules};
 
-use crate::discipline::Discipline;
-use crate::naming::{Holding, choose};
+use crate::discipline::{Discipline, Holding};
+use crate::naming::choose;
 use crate::section::{OpenSection, Section};
 
 // A section may hold against those whose rank is no better than its ceiling.
@@ -17,22 +17,14 @@ impl Holding for Ceiling {
 
     ghost first = { Prim.search rules };
 
-    fn may_hold(&self, holder: Section, against: Section) -> bool {
+    ghost second = { Prim.search rules };
+
+    fn hold(&self, holder: Section, against: Section) -> bool {
         holder.ceiling <= against.rank
     }
 }
 
 impl Discipline for Ceiling {
-    ghost may = { λ _. under_ceiling };
-
-    ghost first = { Prim.search rules };
-
-    ghost second = { Prim.search rules };
-
-    fn hold(&self, holder: Section, against: Section) -> bool {
-        self.may_hold(holder, against)
-    }
-
     fn name(&mut self, row: &[OpenSection]) -> Option<usize>
         ensures rules { Answers under_ceiling row.now result }
         ensures fixed { self.new ≡ self.old }

@@ -9,6 +9,6 @@ mod section;
 mod whole;
 
 pub use ceiling::Ceiling;
-pub use discipline::Discipline;
+pub use discipline::{Discipline, Holding};
 pub use section::{OpenSection, Section};
 pub use whole::Whole;

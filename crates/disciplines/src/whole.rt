@@ -4,8 +4,8 @@ ghost use Rattle.disciplines.specs.Chosen.{chosen};
 ghost use Rattle.disciplines.specs.Supplied.{always};
 ghost use Rattle.std.proofs.Common.{rules};
 
-use crate::discipline::Discipline;
-use crate::naming::{Holding, choose};
+use crate::discipline::{Discipline, Holding};
+use crate::naming::choose;
 use crate::section::{OpenSection, Section};
 
 // Every section may hold against every section.
@@ -17,22 +17,14 @@ impl Holding for Whole {
 
     ghost first = { Prim.search rules };
 
-    fn may_hold(&self, _holder: Section, _against: Section) -> bool {
+    ghost second = { Prim.search rules };
+
+    fn hold(&self, _holder: Section, _against: Section) -> bool {
         true
     }
 }
 
 impl Discipline for Whole {
-    ghost may = { λ _. always };
-
-    ghost first = { Prim.search rules };
-
-    ghost second = { Prim.search rules };
-
-    fn hold(&self, holder: Section, against: Section) -> bool {
-        self.may_hold(holder, against)
-    }
-
     fn name(&mut self, row: &[OpenSection]) -> Option<usize>
         ensures rules { Answers always row.now result }
         ensures fixed { self.new ≡ self.old }
