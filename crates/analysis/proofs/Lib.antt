@@ -1,3 +1,2 @@
-pub mod Ranges
-pub mod Rows
+pub mod Greatest
 pub mod Terms

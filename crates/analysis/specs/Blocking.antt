@@ -3,7 +3,7 @@
 --   section   a task's critical section as a discipline sees it
 --   blocks    whether a task's section ranks worse than another's, sits on its processor and may hold against it
 --   blocking  the greatest length of those; 0 if there is none
-use Rattle.std.specs.Prelude.{ℕ, zero, suc, min, max, Bool, cond, ◌&&◌, List, length, Some, None, Option, nat_lt}
+use Rattle.std.specs.Prelude.{ℕ, zero, suc, min, max, Bool, cond, ◌&&◌, List, length, unwrap_or, nat_lt}
 use Rattle.std.proofs.Common.{arith}
 use Rattle.disciplines.specs.declared.section.Section.{Section}
 use Rattle.disciplines.specs.Rules.{Relation}
@@ -13,18 +13,13 @@ use Rattle.analysis.specs.declared.part.PartKind.TheVariants.{Critical}
 use Rattle.analysis.specs.Parts.{row_at}
 use Rattle.analysis.specs.Seats.{Seats, together}
 
--- the number that there is, or 0
-abbrev pub or_zero : Option ℕ → ℕ
-or_zero None = 0
-or_zero (Some n) = n
-
 -- a table has at most 64 tasks and 32 resources, so the limits that a section's type asks for cut nothing off
 abbrev pub section : List Row → ℕ → Section
 section rows k =
     record {
       rank = min k 63;
-      resource = min (or_zero (row_at rows k).resource) 31;
-      ceiling = min (or_zero (ceiling (or_zero (row_at rows k).resource) rows)) 63;
+      resource = min (unwrap_or (row_at rows k).resource 0) 31;
+      ceiling = min (unwrap_or (ceiling (unwrap_or (row_at rows k).resource 0) rows) 0) 63;
       small = (omega arith, omega arith, omega arith);
     }
 

@@ -1,5 +1,6 @@
 pub mod Parts
 pub mod Seats
+pub mod Seated
 pub mod Needs
 pub mod Blocking
 pub mod Judging

@@ -6,7 +6,8 @@
 --   is_box     whether a box may have so many processors
 --   lawful     whether a seating is lawful: the last q of m processors are synchronisation processors and have all resources,
 --             the others are application processors and have all tasks
-use Rattle.std.specs.Prelude.{ℕ, ◌-◌, Bool, true, false, ◌&&◌, List, [], ◌∷◌, length, Some, None, Option, ◌==◌, nat_le, nat_lt, slice_index}
+use Rattle.std.specs.Prelude.{ℕ, ◌-◌, Bool, false, ◌&&◌, List, length, Some, None, Option, ◌==◌, nat_le, nat_lt, slice_index}
+use Rattle.std.specs.List.{list_all}
 use Rattle.tables.specs.Rows.{Row, Listing}
 use Rattle.analysis.specs.declared.part.PartKind.{PartKind}
 use Rattle.analysis.specs.declared.part.PartKind.TheVariants.{Before, Critical, After}
@@ -44,8 +45,7 @@ is_from low high p = nat_le low p && nat_lt p high
 
 -- each is such a processor
 abbrev pub all_from : ℕ → ℕ → List ℕ → Bool
-all_from low high [] = true
-all_from low high (p ∷ ps) = is_from low high p && all_from low high ps
+all_from low high seats = list_all (is_from low high) seats
 
 -- as many seats as rows, each such a processor
 abbrev pub all_seated : ℕ → ℕ → ℕ → List ℕ → Bool

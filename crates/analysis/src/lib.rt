@@ -7,10 +7,10 @@ mod lateness;
 mod needs;
 mod part;
 mod places;
+mod seated;
 mod seating;
 
-pub use blocking::blocking_term;
-pub use judging::{judge, judge_with, part_bound};
 pub use lateness::{Lateness, WeighFault};
 pub use part::{Bounds, PartKind};
-pub use seating::{Seating, is_box, is_lawful};
+pub use seated::Seated;
+pub use seating::{Seating, is_box};

@@ -5,8 +5,10 @@
 --   bounds-exist               where each task is judged in time, there are bounds of all tasks
 --   weighed                    under a lawful seating they are those of the plan
 --   what-is-found-is-accepted  so weighing accepts what is found, since the seats of resources are lawful
-use Rattle.std.proofs.Common.{◌≡◌, ℕ, suc, ◌-◌, ◌<◌, ◌≤◌, true, not, List, [], ◌∷◌, length, get_or, Ok, Err, Result, refl, ap, ◌∙◌, arith}
+use Rattle.std.proofs.Common.{◌≡◌, ℕ, ◌-◌, ◌<◌, ◌≤◌, true, not, List, length, get_or, Ok, Err, Result, refl, ap, ◌∙◌, arith}
 use Rattle.std.proofs.lemmas.Bool.{and_from, and_parts, cond-false, eq-eqb, le-leb, leb-true, lt-ltb, not_from_true}
+use Rattle.std.proofs.lemmas.List.{get_or_default}
+use Rattle.std.proofs.lemmas.List.Sums.{list_all-from_AllPass}
 use Rattle.disciplines.specs.Rules.{Relation}
 use Rattle.tables.specs.Rows.{Row, Listing}
 use Rattle.spreading.specs.Spreading.{spread_of}
@@ -16,7 +18,7 @@ use Rattle.analysis.specs.declared.lateness.WeighFault.TheVariants.{Box, Seat, L
 use Rattle.analysis.specs.declared.part.Bounds.{Bounds}
 use Rattle.analysis.specs.Blocking.{blocking}
 use Rattle.analysis.specs.Judging.{judged}
-use Rattle.analysis.specs.Seats.{Seats, all_from, all_seated, is_box, lawful}
+use Rattle.analysis.specs.Seats.{Seats, all_from, all_seated, is_box, is_from, lawful}
 use Rattle.analysis.specs.Weighing.{bounds_to, plan_with, weigh_of}
 use Rattle.exactness.proofs.Tasks.{Outcome, bounds_to-at, outcome}
 use Rattle.attempts.specs.Accepted.{What-is-found-is-accepted}
@@ -24,27 +26,15 @@ use Rattle.attempts.specs.Placing.{Found, fewest, find_seats, most}
 use Rattle.attempts.proofs.Locality.{judged-front}
 use Rattle.attempts.proofs.Seating.{AllSeated, ByAttempt, all-seated, found-by-attempt}
 
--- spreading gives each resource a seat
-abbrev Spread-length : Type 0
-Spread-length = (t : Listing) (m q : ℕ) → length (spread_of t m q) ≡ length t.resources
-
--- and each seat is a synchronisation processor, if there is one
-abbrev Spread-within : Type 0
-Spread-within =
-    (t : Listing) (m q : ℕ) → 0 < q → q ≤ m → (k : ℕ) → k < length t.resources
-    → (m - q ≤ get_or (spread_of t m q) k 0) × (get_or (spread_of t m q) k 0 < m)
-
 module _ (low high : ℕ) where
   -- the seat of row k is such a processor
   abbrev Within : List ℕ → ℕ → Type 0
   Within seats k = (low ≤ get_or seats k 0) × (get_or seats k 0 < high)
 
   all_from-each : (seats : List ℕ) → ((k : ℕ) → k < length seats → Within seats k) → all_from low high seats ≡ true
-  all_from-each [] each = refl
-  all_from-each (p ∷ ps) each =
-      let here = each 0 (omega arith) in
-      and_from _ _ (and_from _ _ (le-leb _ _ here.0) (lt-ltb _ _ here.1))
-      (all_from-each ps (λ k h. each (suc k) (omega arith)))
+  all_from-each seats each =
+      list_all-from_AllPass (is_from low high) seats
+      (λ k d h. rw (get_or_default seats k d 0 h) (let here = each k h in and_from _ _ (le-leb _ _ here.0) (lt-ltb _ _ here.1)))
 
   all_seated-each : (rows : ℕ) (seats : List ℕ) → length seats ≡ rows → ((k : ℕ) → k < rows → Within seats k)
       → all_seated low high rows seats ≡ true
@@ -89,36 +79,32 @@ module _ (may : Relation) (m : ℕ) (t : Listing) (box : is_box m ≡ true) (fou
       by-attempt.homes
 
   -- the resources sit as they are spread
-  resources-lawful : Spread-length → Spread-within
-      → all_seated (m - found.syncs) m (length t.resources) found.seats.resources ≡ true
-  resources-lawful long within =
+  resources-lawful : all_seated (m - found.syncs) m (length t.resources) found.seats.resources ≡ true
+  resources-lawful =
       rw by-attempt.spread
-      (all_seated-each (m - found.syncs) m (length t.resources) (spread_of t m found.syncs) (long t m found.syncs)
-      (λ k h. within t m found.syncs (omega (arith, by-attempt.from_on)) (omega (arith, by-attempt.up_to)) k h))
+      (all_seated-each (m - found.syncs) m (length t.resources) (spread_of t m found.syncs) (spread-length t m found.syncs)
+      (λ k h. spread-within t m found.syncs (omega (arith, by-attempt.from_on)) (omega (arith, by-attempt.up_to)) k h))
 
   tasks-lawful : all_seated 0 (m - found.syncs) (length t.tasks) found.seats.tasks ≡ true
   tasks-lawful =
       all_seated-each 0 (m - found.syncs) (length t.tasks) found.seats.tasks tasks-seated.0
       (λ k h. (omega arith, (tasks-seated.1 k h).application))
 
-  found-is-lawful : Spread-length → Spread-within → lawful m found.syncs t found.seats ≡ true
-  found-is-lawful long within =
+  found-is-lawful : lawful m found.syncs t found.seats ≡ true
+  found-is-lawful =
       and_from _ _ (and_from _ _ box (lt-ltb _ _ (omega (arith, two-or-more, by-attempt.up_to))))
-      (and_from _ _ (resources-lawful long within) tasks-lawful)
+      (and_from _ _ resources-lawful tasks-lawful)
 
 -- a plan has the bounds that tasks were seated with: worse-ranked tasks were still without seats then, and neither a bound nor a
 -- blocking term asks where those sit
-accepted-if-spread : Spread-length → Spread-within → What-is-found-is-accepted
-accepted-if-spread long within may m t box found e =
+pub what-is-found-is-accepted : What-is-found-is-accepted
+what-is-found-is-accepted may m t box found e =
     let seated = (tasks-seated may m t box found e).1 in
     let exist =
     bounds-exist may found.seats t.tasks (length t.tasks) (λ k h. ((seated k h).bounds, (seated k h).in-time))
     in (
       _,
-      weighed may m found.syncs t found.seats (found-is-lawful may m t box found e long within) exist.0 exist.1,
+      weighed may m found.syncs t found.seats (found-is-lawful may m t box found e) exist.0 exist.1,
       λ k h. judged-front found.seats t.tasks (blocking may found.seats t.tasks k) k
           ∙ bounds_to-at may found.seats t.tasks (length t.tasks) exist.0 exist.1 k h,
     )
-
-pub what-is-found-is-accepted : What-is-found-is-accepted
-what-is-found-is-accepted = accepted-if-spread spread-length spread-within

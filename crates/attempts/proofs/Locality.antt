@@ -5,11 +5,12 @@
 --   bound-same    so it has the same bound
 --   judged-same   and the task is judged the same
 --   judged-front  so it is judged the same when only the tasks up to its rank have seats
-use Rattle.std.proofs.Common.{◌≡◌, ℕ, zero, suc, ◌+◌, ◌*◌, ◌<◌, ◌≤◌, cond, eqb, List, get_or, take, Some, None, Err, Option, Result, refl, ap, ap₂, arith}
+use Rattle.std.proofs.Common.{◌≡◌, ℕ, ◌+◌, ◌*◌, ◌<◌, ◌≤◌, cond, eqb, List, get_or, take, Some, None, Err, Option, Result, refl, ap, ap₂, arith}
 use mathlib.Core.Path.{fun_ext}
 use Rattle.std.proofs.lemmas.List.{get_or-take}
 use Rattle.bounds.specs.Least.{least}
-use Rattle.bounds.specs.Sums.{ceil, sum_to}
+use Rattle.bounds.specs.Sums.{ceil}
+use Rattle.bounds.specs.Takings.{sum_to-same}
 use Rattle.tables.specs.Rows.{Row}
 use Rattle.analysis.specs.declared.lateness.Lateness.{Lateness}
 use Rattle.analysis.specs.declared.lateness.Lateness.TheVariants.{NoBound}
@@ -24,11 +25,6 @@ use Rattle.analysis.specs.Seats.{Seats, same_place, served_at, site_of, together
 pub record Alike (k : ℕ) (s u : Seats) : Type 0 where
   pub sites : s.resources ≡ u.resources
   pub homes : (i : ℕ) → i ≤ k → get_or s.tasks i 0 ≡ get_or u.tasks i 0
-
--- sums of the same numbers are the same
-sum_to-same : (f g : ℕ → ℕ) (n : ℕ) → ((i : ℕ) → i < n → f i ≡ g i) → sum_to f n ≡ sum_to g n
-sum_to-same f g zero same = refl
-sum_to-same f g (suc n) same = ap₂ ◌+◌ (sum_to-same f g n (λ i h. same i (omega arith))) (same n (omega arith))
 
 -- the task of rank k, under two such seatings
 module _ (s u : Seats) (rows : List Row) (k : ℕ) (alike : Alike k s u) where
