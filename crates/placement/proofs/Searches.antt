@@ -44,16 +44,13 @@ module _ (may : Relation) (rows : List Row) (sites : List ℕ) where
   tried-is homes p k critical fits c l e =
       sym (e ∙ ap (λ (o : Option ℕ). is_ok (judged_with (record { resources = sites; tasks = homes ++ p ∷ [] }) rows 0 o (length homes))) (c ∙ ap critical_at (sym l)))
 
-  -- the same through slices that lend the seats
-  pub asked : (lent bytes homes now : List ℕ) (p k : ℕ) (critical : Option ℕ) (fits : Bool) → lent ≡ sites → bytes ≡ sites → now ≡ homes → length homes ≡ k
-      → critical ≡ bound (record { resources = lent; tasks = [] }) rows (term may rows lent k) Critical k
-      → fits ≡ is_ok (judged_with (record { resources = bytes; tasks = now ++ p ∷ [] }) rows 0 critical (length now))
+  -- the same where the seats so far are told twice
+  pub asked : (homes now : List ℕ) (p k : ℕ) (critical : Option ℕ) (fits : Bool) → now ≡ homes → length homes ≡ k → critical ≡ critical_at k
+      → fits ≡ is_ok (judged_with (record { resources = sites; tasks = now ++ p ∷ [] }) rows 0 critical (length now))
       → is_ok (tried may rows sites homes p) ≡ fits
-  asked lent bytes homes now p k critical fits el eb en l c e =
-      tried-is homes p k critical fits
-      (c ∙ ap (λ (x : List ℕ). bound (record { resources = x; tasks = [] }) rows (term may rows x k) Critical k) el) l
-      (e ∙ ap (λ (x : List ℕ). is_ok (judged_with (record { resources = x; tasks = now ++ p ∷ [] }) rows 0 critical (length now))) eb
-      ∙ ap (λ (x : List ℕ). is_ok (judged_with (record { resources = sites; tasks = x ++ p ∷ [] }) rows 0 critical (length x))) en)
+  asked homes now p k critical fits en l c e =
+      tried-is homes p k critical fits c l
+      (e ∙ ap (λ (x : List ℕ). is_ok (judged_with (record { resources = sites; tasks = x ++ p ∷ [] }) rows 0 critical (length x))) en)
 
   -- a task with no critical bound is never in time
   never : (o : Option ℕ) (s : Seats) (k : ℕ) → is_ok (judged_with s rows 0 o k) ≡ true → is_some o ≡ true
@@ -98,13 +95,12 @@ module _ (may : Relation) (rows : List Row) (sites : List ℕ) where
   tasks-end apps n k homes h = let z : n - k ≡ 0 = omega arith in ap (λ (x : ℕ). seat_tasks may rows sites apps x homes) z
 
   -- no processor takes the next task, so the attempt fails with it
-  pub none-takes : (apps k p : ℕ) (homes lent : List ℕ) (critical : Option ℕ) → lent ≡ sites → length homes ≡ k → k < length rows → apps ≤ p
-      → critical ≡ bound (record { resources = lent; tasks = [] }) rows (term may rows lent k) Critical k
+  pub none-takes : (apps k p : ℕ) (homes : List ℕ) (critical : Option ℕ) → length homes ≡ k → k < length rows → apps ≤ p → critical ≡ critical_at k
       → first_of (λ x. is_ok (tried may rows sites homes x)) (apps - p) p ≡ goes_to may rows sites apps homes
       → seat_tasks may rows sites apps (length rows - k) homes ≡ Err (Late k (late_with critical))
-  none-takes apps k p homes lent critical el l h end c left =
+  none-takes apps k p homes critical l h end c left =
       tasks-off apps (length rows) k homes _ h
-      (seat-missed apps k homes critical (c ∙ ap (λ (x : List ℕ). bound (record { resources = x; tasks = [] }) rows (term may rows x k) Critical k) el) l
+      (seat-missed apps k homes critical c l
       (sym left ∙ first_of-end (λ x. is_ok (tried may rows sites homes x)) apps p end))
 
 module _ (may : Relation) (m : ℕ) (t : Listing) where

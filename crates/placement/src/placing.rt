@@ -8,7 +8,7 @@ ghost use Rattle.plans.specs.Plans.{planned};
 ghost use Rattle.placement.specs.Seatings.{found_in, late_with};
 
 use crate::seats::{critical_bound, sit};
-use analysis::{Lateness, PartKind, Seating, WeighFault, is_box};
+use analysis::{Lateness, PartKind, Seated, Seating, WeighFault, is_box};
 use disciplines::Discipline;
 use fields::Ticks;
 use plans::{Plan, weigh};
@@ -20,10 +20,7 @@ use tables::Table;
 fn lateness_with(critical: Option<Ticks>) -> Lateness
     ensures { result ≡ late_with critical }
 {
-    match critical {
-        Some(_) => Lateness::Whole,
-        None => Lateness::NoBound(PartKind::Critical),
-    }
+    critical.map_or(Lateness::NoBound(PartKind::Critical), |_| Lateness::Whole)
 }
 
 // The fewest synchronisation processors to try: one, or none without a resource.
@@ -38,7 +35,7 @@ fn most_syncs(processors: u8, table: &Table) -> u8
     requires { is_box processors ≡ true }
     ensures { result ≡ most processors (listed table.now) }
 {
-    table.resources().len().min((processors - 1) as usize) as u8
+    table.resources().len().min(usize::from(processors - 1)) as u8
 }
 
 // The seating that is found for a table: the first attempt that seats every task, else the last one's failure.
@@ -49,24 +46,22 @@ fn find_seats<D: Discipline>(
     discipline: &D,
 ) -> Result<Seating, WeighFault>
     requires { is_box processors ≡ true }
-    ensures { Told result found_in (find_seats (D.Discipline.may discipline.now) processors (listed table.now)) }
+    ensures { Told result found_in (find_seats (D.may discipline.now) processors (listed table.now)) }
 {
     let most = most_syncs(processors, table);
     let mut syncs = fewest_syncs(table);
     'attempts: loop {
         let sites = spread(heap, table, processors, syncs)?;
+        let seated = Seated {
+            table,
+            sites: &sites,
+            homes: &[],
+        };
         let mut homes = Vec::new(heap);
         'tasks: for rank in 0..table.tasks().len() {
-            let critical = critical_bound(heap, table, sites.as_slice(), discipline, rank)?;
+            let critical = critical_bound(heap, seated, discipline, rank)?;
             'processors: for processor in 0..processors - syncs {
-                if sit(
-                    heap,
-                    table,
-                    sites.as_slice(),
-                    &mut homes,
-                    critical,
-                    processor,
-                )? {
+                if sit(heap, seated, &mut homes, critical, processor)? {
                     continue 'tasks;
                 }
             }
@@ -86,7 +81,7 @@ fn find_seats<D: Discipline>(
 
 // The theorem that weighing accepts what is found, for a caller's contract; it does nothing.
 fn what_is_found_is_accepted<D: Discipline>(processors: u8, table: &Table, discipline: &D)
-    ensures { Accepted (D.Discipline.may discipline.now) processors (listed table.now) }
+    ensures { Accepted (D.may discipline.now) processors (listed table.now) }
 {}
 
 // The plan of the seating that is found for a table in a box.
@@ -96,8 +91,8 @@ pub fn place<D: Discipline>(
     table: &Table,
     discipline: &D,
 ) -> Result<Plan, WeighFault>
-    ensures value { Told result planned (place_of (D.Discipline.may discipline.now) processors (listed table.now)) }
-    ensures accepted { Accepted (D.Discipline.may discipline.now) processors (listed table.now) }
+    ensures value { Told result planned (place_of (D.may discipline.now) processors (listed table.now)) }
+    ensures accepted { Accepted (D.may discipline.now) processors (listed table.now) }
 {
     what_is_found_is_accepted(processors, table, discipline);
     if !is_box(processors) {

@@ -3,8 +3,10 @@
 --   keeps-at      its bounds fit
 --   total-within  so their sum is at most its deadline
 --   totals-short  and that is at most the longest time that a figure writes
-use Rattle.std.proofs.Common.{◌≡◌, ℕ, zero, suc, ◌<◌, ◌≤◌, Bool, true, leb, List, [], ◌∷◌, length, get_or, ap, ◌∙◌, ⊎_elim, arith}
+use Rattle.std.proofs.Common.{◌≡◌, ℕ, zero, suc, ◌<◌, ◌≤◌, Bool, true, leb, List, [], ◌∷◌, length, get_or, sym, ap, ◌∙◌, ⊎_elim, arith}
 use Rattle.std.proofs.lemmas.Bool.{and_parts, cases_eq, leb-true}
+use Rattle.std.proofs.lemmas.List.{get_or-map}
+use Rattle.std.specs.List.{All}
 use Rattle.tables.specs.declared.task.Task.{Task}
 use Rattle.tables.specs.Rowed.{rows}
 use Rattle.tables.specs.Rows.{Row}
@@ -13,6 +15,8 @@ use Rattle.analysis.specs.Judging.{fits}
 use Rattle.analysis.specs.Parts.{deadline, row_at, total}
 use Rattle.analysis.specs.Seats.{Seats}
 use Rattle.analysis.specs.Weighing.{all_to, keeps, no_bounds}
+use Rattle.weights.specs.declared.weight.Weight.{Weight}
+use Rattle.weights.specs.Weights.{bounds_of, terms_of}
 
 -- what holds of all numbers below n holds of each
 all_to-at : (f : ℕ → Bool) (n : ℕ) → all_to f n ≡ true → (k : ℕ) → k < n → f k ≡ true
@@ -34,10 +38,12 @@ deadline-short [] k = omega arith
 deadline-short (x ∷ tasks) zero = x.spaced.1
 deadline-short (x ∷ tasks) (suc k) = deadline-short tasks k
 
--- so the sums of a plan's bounds are short, whichever slice lends them
-pub totals-short : (s : Seats) (tasks : List Task) (terms : List ℕ) (bounds lent : List Bounds) → keeps s (rows tasks) terms bounds ≡ true
-    → length bounds ≡ length (rows tasks) → lent ≡ bounds → (k : ℕ) → k < length lent → total (get_or lent k no_bounds) ≤ 10000000
-totals-short s tasks terms bounds lent kept long same k h =
-    let within : k < length (rows tasks) = omega (arith, ap length same) in
-    let sum : total (get_or lent k no_bounds) ≡ total (get_or bounds k no_bounds) = ap (λ (xs : List Bounds). total (get_or xs k no_bounds)) same in
-    omega (arith, sum, total-within s (rows tasks) terms bounds kept k within, deadline-short tasks k)
+-- so the sums of a plan's bounds are short, whichever slice lends its weights
+pub totals-short : (s : Seats) (tasks : List Task) (weights lent : List Weight) → keeps s (rows tasks) (terms_of weights) (bounds_of weights) ≡ true
+    → length weights ≡ length (rows tasks) → lent ≡ weights → All (λ w. total w.bounds ≤ 10000000) lent
+totals-short s tasks weights lent kept long same k d h =
+    let inside : k < length weights = omega (arith, ap length same) in
+    let its : get_or (bounds_of weights) k no_bounds ≡ (get_or lent k d).bounds =
+    get_or-map (λ (w : Weight). w.bounds) weights k d no_bounds inside ∙ ap (λ (ws : List Weight). (get_or ws k d).bounds) (sym same)
+    in
+    omega (arith, ap total its, total-within s (rows tasks) (terms_of weights) (bounds_of weights) kept k (omega arith), deadline-short tasks k)

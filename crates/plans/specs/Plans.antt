@@ -4,6 +4,7 @@ use Rattle.tables.specs.Listed.{listed}
 use Rattle.tables.specs.Reading.{empty_table}
 use Rattle.analysis.specs.Told.{seats_of}
 use Rattle.analysis.specs.Weighing.{Planned}
+use Rattle.weights.specs.Weights.{bounds_of, terms_of}
 use Rattle.plans.specs.declared.plan.Plan.{Plan}
 
 abbrev pub planned : Plan → Planned
@@ -13,8 +14,8 @@ planned p =
       syncs = p.seating.syncs;
       seats = seats_of p.seating;
       table = listed p.table;
-      blocking = vec_items p.blocking;
-      bounds = vec_items p.bounds;
+      blocking = terms_of (vec_items p.weights);
+      bounds = bounds_of (vec_items p.weights);
     }
 
 abbrev pub empty_plan : Planned

@@ -2,11 +2,12 @@ ghost use Rattle.std.specs.Prelude.{◌≡◌, true, length, vec_len};
 ghost use Rattle.tables.specs.Listed.{listed};
 ghost use Rattle.analysis.specs.Told.{seats_of};
 ghost use Rattle.analysis.specs.Weighing.{keeps};
+ghost use Rattle.weights.specs.Weights.{bounds_of, terms_of};
 ghost use Rattle.plans.specs.Empty.{empty_or_lawful};
 
-use analysis::{Bounds, Seating};
-use fields::Ticks;
+use analysis::Seating;
 use tables::Table;
+use weights::Weight;
 
 mod figures;
 mod parts;
@@ -20,9 +21,8 @@ pub struct Plan {
     processors: u8,
     seating: Seating,
     table: Table,
-    blocking: Vec<Ticks>,
-    bounds: Vec<Bounds>,
-    ghost complete: { (vec_len blocking ≡ length (listed table).tasks) × (vec_len bounds ≡ length (listed table).tasks) },
+    weights: Vec<Weight>,
+    ghost complete: { vec_len weights ≡ length (listed table).tasks },
     ghost lawful: { empty_or_lawful processors seating.syncs (listed table) (seats_of seating) ≡ true },
-    ghost kept: { keeps (seats_of seating) (listed table).tasks blocking.items bounds.items ≡ true },
+    ghost kept: { keeps (seats_of seating) (listed table).tasks (terms_of weights.items) (bounds_of weights.items) ≡ true },
 }

@@ -1,16 +1,17 @@
 ghost use Rattle.std.specs.Prelude.{◌≡◌, slice_index, slice_set};
 
+use std::mem;
+
 // Puts a byte at a place and answers the one that stood there. Past the end nothing is put, and 0 is answered.
 pub(crate) fn replace(bytes: &mut [u8], at: usize, byte: u8) -> u8
     ensures put { bytes.new ≡ slice_set bytes.old at byte }
     ensures was { result ≡ slice_index bytes.old at }
 {
-    if at >= bytes.len() {
-        return 0;
+    if at < bytes.len() {
+        mem::replace(&mut bytes[at], byte)
+    } else {
+        0
     }
-    let old = bytes[at];
-    bytes[at] = byte;
-    old
 }
 
 // Seats of which one was changed. The old byte is put back when they are let go.

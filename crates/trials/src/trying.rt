@@ -29,7 +29,7 @@ pub fn trial<D: Discipline>(
     task: usize,
     processor: u8,
 ) -> Result<Ticks, TrialFault>
-    ensures answer { Tried result (tried_of (D.Discipline.may discipline.now) processors seating.old.syncs (listed table.now) (seats_of seating.old) task processor) }
+    ensures answer { Tried result (tried_of (D.may discipline.now) processors seating.old.syncs (listed table.now) (seats_of seating.old) task processor) }
     ensures same { (seating.new.syncs ≡ seating.old.syncs) × (seats_of seating.new ≡ seats_of seating.old) }
 {
     if !is_box(processors) {

@@ -1,28 +1,20 @@
-ghost use Rattle.std.specs.Prelude.{◌≡◌, ◌<◌, ◌≤◌, length};
+ghost use Rattle.std.specs.Prelude.{◌≡◌, ◌<◌, length};
 ghost use Rattle.tables.specs.Listed.{listed};
-ghost use Rattle.analysis.specs.Parts.{total};
 ghost use Rattle.analysis.specs.Told.{seats_of};
 ghost use Rattle.analysis.specs.Weighing.{weigh_of};
 ghost use Rattle.trials.specs.Trials.{Tried, seated_on, sum_of};
 
 use crate::fault::TrialFault;
 use crate::moved::{Moved, replace};
-use analysis::{Bounds, Seating};
+use analysis::{Seated, Seating};
 use disciplines::Discipline;
 use fields::Ticks;
 use std::alloc::Global;
 use tables::Table;
 use weights::weigh_seats;
 
-// The sum of three bounds. They keep a deadline, so it is at most 10,000,000.
-fn sum(bounds: &Bounds) -> Ticks
-    requires { total bounds.now ≤ 10000000 }
-    ensures { result ≡ total bounds.now }
-{
-    bounds.before + bounds.critical + bounds.after
-}
-
-// The sum of the bounds of a task, its seat being changed while it is weighed.
+// The sum of the bounds of a task, its seat being changed while it is weighed. The seats come as slices, for of a vector
+// whose slice comes back by a guard's drop the check knows no element.
 fn weigh_changed<D: Discipline>(
     heap: Global,
     processors: u8,
@@ -35,7 +27,7 @@ fn weigh_changed<D: Discipline>(
     processor: u8,
 ) -> Result<Ticks, TrialFault>
     requires { task < length (listed table.now).tasks }
-    ensures answer { Tried result (sum_of task (weigh_of (D.Discipline.may discipline.now) processors syncs (listed table.now) (seated_on (record { resources = sites.now; tasks = homes.old }) task processor))) }
+    ensures answer { Tried result (sum_of task (weigh_of (D.may discipline.now) processors syncs (listed table.now) (seated_on (record { resources = sites.now; tasks = homes.old }) task processor))) }
     ensures same { homes.new ≡ homes.old }
 {
     let old = replace(homes, task, processor);
@@ -44,16 +36,13 @@ fn weigh_changed<D: Discipline>(
         at: task,
         old,
     };
-    let weights = weigh_seats(
-        heap,
-        processors,
-        syncs,
+    let seated = Seated {
         table,
         sites,
-        guard.bytes(),
-        discipline,
-    )?;
-    Ok(sum(&weights.bounds[task]))
+        homes: guard.bytes(),
+    };
+    let weights = weigh_seats(heap, processors, syncs, seated, discipline)?;
+    Ok(weights[task].bounds.total() as Ticks)
 }
 
 // The same of a seating.
@@ -67,7 +56,7 @@ pub(crate) fn weigh_moved<D: Discipline>(
     processor: u8,
 ) -> Result<Ticks, TrialFault>
     requires { task < length (listed table.now).tasks }
-    ensures answer { Tried result (sum_of task (weigh_of (D.Discipline.may discipline.now) processors seating.old.syncs (listed table.now) (seated_on (seats_of seating.old) task processor))) }
+    ensures answer { Tried result (sum_of task (weigh_of (D.may discipline.now) processors seating.old.syncs (listed table.now) (seated_on (seats_of seating.old) task processor))) }
     ensures same { (seating.new.syncs ≡ seating.old.syncs) × (seats_of seating.new ≡ seats_of seating.old) }
 {
     weigh_changed(
@@ -75,8 +64,8 @@ pub(crate) fn weigh_moved<D: Discipline>(
         processors,
         seating.syncs,
         table,
-        seating.resources.as_slice(),
-        seating.tasks.as_mut_slice(),
+        &seating.resources,
+        &mut seating.tasks,
         discipline,
         task,
         processor,

@@ -1,12 +1,12 @@
 -- Blocking terms and bounds together.
-use Rattle.std.specs.Prelude.{ℕ, List, Ok, Err, vec_items, Result}
+use Rattle.std.specs.Prelude.{ℕ, List, map, Ok, Err, Result}
 use Rattle.disciplines.specs.Rules.{Relation}
 use Rattle.tables.specs.Rows.{Row, Listing}
 use Rattle.analysis.specs.declared.lateness.WeighFault.{WeighFault}
 use Rattle.analysis.specs.declared.part.Bounds.{Bounds}
 use Rattle.analysis.specs.Seats.{Seats}
 use Rattle.analysis.specs.Weighing.{Planned, bounds_to, terms_to}
-use Rattle.weights.specs.declared.weighing.Weights.{Weights}
+use Rattle.weights.specs.declared.weight.Weight.{Weight}
 
 -- bounds beside these blocking terms
 abbrev pub with_terms : List ℕ → Result (List Bounds) WeighFault → Result (List ℕ × List Bounds) WeighFault
@@ -17,7 +17,15 @@ with_terms terms (Err fault) = Err fault
 abbrev pub weighed_to : Relation → Seats → List Row → ℕ → Result (List ℕ × List Bounds) WeighFault
 weighed_to may s rows n = with_terms (terms_to may s rows n) (bounds_to may s rows n)
 
--- the plan with these blocking terms and bounds
-abbrev pub planned_with : ℕ → ℕ → Listing → Seats → Weights → Planned
-planned_with m q t s w =
-    record { processors = m; syncs = q; seats = s; table = t; blocking = vec_items w.blocking; bounds = vec_items w.bounds }
+-- the blocking terms of these weights
+abbrev pub terms_of : List Weight → List ℕ
+terms_of weights = map (λ w. w.blocking) weights
+
+-- the bounds of these weights
+abbrev pub bounds_of : List Weight → List Bounds
+bounds_of weights = map (λ w. w.bounds) weights
+
+-- the plan with these weights
+abbrev pub planned_with : ℕ → ℕ → Listing → Seats → List Weight → Planned
+planned_with m q t s weights =
+    record { processors = m; syncs = q; seats = s; table = t; blocking = terms_of weights; bounds = bounds_of weights }

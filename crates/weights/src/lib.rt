@@ -2,5 +2,7 @@
 #![tactic(auto)]
 
 mod weighing;
+mod weight;
 
-pub use weighing::{Weights, weigh_seats};
+pub use weighing::weigh_seats;
+pub use weight::Weight;

@@ -1,26 +1,31 @@
-ghost use Rattle.std.specs.Prelude.{◌≡◌, ℕ, ◌*◌, ◌<◌, ◌≤◌, ◌++◌, length, drop, slice_index_or};
+ghost use Rattle.std.specs.Prelude.{◌≡◌, ◌*◌, ◌≤◌, [], ◌∷◌, ◌++◌, length, drop, All};
 ghost use Rattle.analysis.specs.Parts.{total};
-ghost use Rattle.analysis.specs.Weighing.{no_bounds};
+ghost use Rattle.weights.specs.Weights.{bounds_of};
 ghost use Rattle.plans.specs.Figures.{figures, filled, room_for};
 ghost use Rattle.plans.specs.Plans.{planned};
 
 use crate::plan::Plan;
 use crate::row::ShortRow;
 use analysis::Bounds;
+use weights::Weight;
 
-// Writes four numbers for each task to the front of the row.
-fn write_figures(bounds: &[Bounds], row: &mut [u32])
-    requires room { 4 * length bounds.now ≤ length row.old }
-    requires small { (k : ℕ) → k < length bounds.now → total (slice_index_or bounds.now k no_bounds) ≤ 10000000 }
-    ensures { row.new ≡ figures bounds.now ++ drop (4 * length bounds.now) row.old }
+// The three bounds of a task, and their sum.
+fn figures_of(bounds: Bounds) -> [u32; 4]
+    requires { total bounds ≤ 10000000 }
+    ensures { result ≡ figures (bounds ∷ []) }
 {
-    for i in 0..bounds.len() {
-        let three = bounds[i];
-        let at = 4 * i;
-        row[at] = three.before;
-        row[at + 1] = three.critical;
-        row[at + 2] = three.after;
-        row[at + 3] = three.before + three.critical + three.after;
+    let sum = bounds.total() as u32;
+    [bounds.before, bounds.critical, bounds.after, sum]
+}
+
+// Writes the figures of each task to the front of the row.
+fn write_figures(weights: &[Weight], row: &mut [u32])
+    requires room { 4 * length weights.now ≤ length row.old }
+    requires small { All (λ w. total w.bounds ≤ 10000000) weights.now }
+    ensures { row.new ≡ figures (bounds_of weights.now) ++ drop (4 * length weights.now) row.old }
+{
+    for (i, weight) in weights.iter().enumerate() {
+        row[4 * i..4 * i + 4].copy_from_slice(&figures_of(weight.bounds));
     }
 }
 
@@ -30,10 +35,10 @@ impl Plan {
         ensures answer { result ≡ room_for (planned self.now).bounds row.old }
         ensures row { row.new ≡ filled (planned self.now).bounds row.old }
     {
-        if row.len() / 4 < self.bounds.len() {
+        if row.len() / 4 < self.weights.len() {
             return Err(ShortRow);
         }
-        write_figures(self.bounds.as_slice(), row);
+        write_figures(&self.weights, row);
         Ok(())
     }
 }

@@ -1,12 +1,13 @@
 ghost use Rattle.std.specs.Prelude.{◌≡◌};
 ghost use Rattle.tables.specs.Listed.{listed};
+ghost use Rattle.weights.specs.Weights.{bounds_of, terms_of};
 ghost use Rattle.plans.specs.Plans.{empty_plan, planned};
 
 use crate::plan::Plan;
-use analysis::{Bounds, Seating};
-use fields::Ticks;
+use analysis::Seating;
 use std::alloc::Global;
 use tables::Table;
+use weights::Weight;
 
 impl Plan {
     // The plan with no task and no processor.
@@ -22,8 +23,7 @@ impl Plan {
             processors: 0,
             seating,
             table: Table::empty(heap),
-            blocking: Vec::new(heap),
-            bounds: Vec::new(heap),
+            weights: Vec::new(heap),
         }
     }
 
@@ -45,14 +45,14 @@ impl Plan {
     pub fn sites(&self) -> &[u8]
         ensures { result.now ≡ (planned self.now).seats.resources }
     {
-        self.seating.resources.as_slice()
+        &self.seating.resources
     }
 
     // The processor of each task, by rank.
     pub fn homes(&self) -> &[u8]
         ensures { result.now ≡ (planned self.now).seats.tasks }
     {
-        self.seating.tasks.as_slice()
+        &self.seating.tasks
     }
 
     pub fn table(&self) -> &Table
@@ -61,17 +61,11 @@ impl Plan {
         &self.table
     }
 
-    // The blocking term of each task, by rank.
-    pub fn blocking(&self) -> &[Ticks]
-        ensures { result.now ≡ (planned self.now).blocking }
+    // The blocking term and the bounds of each task, by rank.
+    pub fn weights(&self) -> &[Weight]
+        ensures blocking { terms_of result.now ≡ (planned self.now).blocking }
+        ensures bounds { bounds_of result.now ≡ (planned self.now).bounds }
     {
-        self.blocking.as_slice()
-    }
-
-    // The three bounds of each task, by rank.
-    pub fn part_bounds(&self) -> &[Bounds]
-        ensures { result.now ≡ (planned self.now).bounds }
-    {
-        self.bounds.as_slice()
+        &self.weights
     }
 }

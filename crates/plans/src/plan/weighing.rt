@@ -8,11 +8,11 @@ ghost use Rattle.plans.specs.Sound.{Sound};
 ghost use Rattle.weights.specs.Weights.{planned_with};
 
 use crate::plan::Plan;
-use analysis::{Seating, WeighFault};
+use analysis::{Seated, Seating, WeighFault};
 use disciplines::Discipline;
 use std::alloc::{AllocError, Global};
 use tables::Table;
-use weights::{Weights, weigh_seats};
+use weights::{Weight, weigh_seats};
 
 // The theorem of exactness, for a caller's contract; it does nothing.
 fn weighing_is_exact<D: Discipline>(
@@ -21,7 +21,7 @@ fn weighing_is_exact<D: Discipline>(
     seating: &Seating,
     discipline: &D,
 )
-    ensures { Exactness (D.Discipline.may discipline.now) processors seating.now.syncs (listed table.now) (seats_of seating.now) (weigh_of (D.Discipline.may discipline.now) processors seating.now.syncs (listed table.now) (seats_of seating.now)) }
+    ensures { Exactness (D.may discipline.now) processors seating.now.syncs (listed table.now) (seats_of seating.now) (weigh_of (D.may discipline.now) processors seating.now.syncs (listed table.now) (seats_of seating.now)) }
 {}
 
 // The plan that holds these, which were found to be sound.
@@ -29,20 +29,16 @@ fn fill(
     processors: u8,
     table: &Table,
     seating: &Seating,
-    weights: Weights,
+    weights: Vec<Weight>,
 ) -> Result<Plan, AllocError>
-    requires { Sound (planned_with processors seating.now.syncs (listed table.now) (seats_of seating.now) weights) }
-    ensures { IfOk result (λ p. planned p ≡ planned_with processors seating.now.syncs (listed table.now) (seats_of seating.now) weights) }
+    requires { Sound (planned_with processors seating.now.syncs (listed table.now) (seats_of seating.now) weights.items) }
+    ensures { IfOk result (λ p. planned p ≡ planned_with processors seating.now.syncs (listed table.now) (seats_of seating.now) weights.items) }
 {
-    let seating = seating.clone()?;
-    let table = table.clone()?;
-    let Weights { blocking, bounds } = weights;
     Ok(Plan {
         processors,
-        seating,
-        table,
-        blocking,
-        bounds,
+        seating: seating.clone()?,
+        table: table.clone()?,
+        weights,
     })
 }
 
@@ -54,17 +50,14 @@ fn weigh_table<D: Discipline>(
     seating: &Seating,
     discipline: &D,
 ) -> Result<Plan, WeighFault>
-    ensures { Told result planned (weigh_of (D.Discipline.may discipline.now) processors seating.now.syncs (listed table.now) (seats_of seating.now)) }
+    ensures { Told result planned (weigh_of (D.may discipline.now) processors seating.now.syncs (listed table.now) (seats_of seating.now)) }
 {
-    let weights = weigh_seats(
-        heap,
-        processors,
-        seating.syncs,
+    let seated = Seated {
         table,
-        seating.resources.as_slice(),
-        seating.tasks.as_slice(),
-        discipline,
-    )?;
+        sites: &seating.resources,
+        homes: &seating.tasks,
+    };
+    let weights = weigh_seats(heap, processors, seating.syncs, seated, discipline)?;
     Ok(fill(processors, table, seating, weights)?)
 }
 
@@ -77,8 +70,8 @@ pub fn weigh<D: Discipline>(
     seating: &Seating,
     discipline: &D,
 ) -> Result<Plan, WeighFault>
-    ensures value { Told result planned (weigh_of (D.Discipline.may discipline.now) processors seating.now.syncs (listed table.now) (seats_of seating.now)) }
-    ensures exact { Exactness (D.Discipline.may discipline.now) processors seating.now.syncs (listed table.now) (seats_of seating.now) (weigh_of (D.Discipline.may discipline.now) processors seating.now.syncs (listed table.now) (seats_of seating.now)) }
+    ensures value { Told result planned (weigh_of (D.may discipline.now) processors seating.now.syncs (listed table.now) (seats_of seating.now)) }
+    ensures exact { Exactness (D.may discipline.now) processors seating.now.syncs (listed table.now) (seats_of seating.now) (weigh_of (D.may discipline.now) processors seating.now.syncs (listed table.now) (seats_of seating.now)) }
 {
     weighing_is_exact(processors, table, seating, discipline);
     weigh_table(heap, processors, table, seating, discipline)

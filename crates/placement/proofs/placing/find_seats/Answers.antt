@@ -13,13 +13,13 @@ use Rattle.placement.proofs.placing.find_seats.Goals as goal
 
 pub processors-preserved : goal.processors-preserved
 processors-preserved g c =
-    let may : Relation = g.D.Discipline.may c.args.discipline.now in
+    let may : Relation = g.D.Holding.may c.args.discipline.now in
     let rows : List Row = (listed c.args.table.now).tasks in
-    let sites : List ℕ = vec_items c.in_ok-sites.sites in
+    let sites : List ℕ = c.deref.result.now in
     let homes : List ℕ = vec_items c.tasks.homes in
     let no : is_ok (tried may rows sites homes c.processors.processor) ≡ false =
-    asked may rows sites c.as_slice.result.now c.as_slice-in-processors.result.now homes (vec_items c.processors.homes) c.processors.processor c.tasks.rank
-    c.in_ok-critical.critical c.in_ok-sit.field-0 c.as_slice.ensures.value c.as_slice-in-processors.ensures.value c.processors.invariant.0 c.tasks.invariant.1
+    asked may rows sites homes (vec_items c.processors.homes) c.processors.processor c.tasks.rank
+    c.in_ok-critical.critical c.in_ok-sit.field-0 c.processors.invariant.0 c.tasks.invariant.1
     c.in_ok-critical.ensures c.in_ok-sit.ensures.fits ∙ c.if-branch.false
     in (
       c.in_ok-sit.ensures.seated
@@ -29,15 +29,15 @@ processors-preserved g c =
 
 pub tasks-preserved : goal.tasks-preserved
 tasks-preserved g c =
-    let may : Relation = g.D.Discipline.may c.args.discipline.now in
+    let may : Relation = g.D.Holding.may c.args.discipline.now in
     let rows : List Row = (listed c.args.table.now).tasks in
-    let sites : List ℕ = vec_items c.in_ok-sites.sites in
+    let sites : List ℕ = c.deref.result.now in
     let homes : List ℕ = vec_items c.tasks.homes in
     let p : ℕ = c.processors.processor in
     let apps : ℕ = c.args.processors - c.tasks.syncs in
     let taken : is_ok (tried may rows sites homes p) ≡ true =
-    asked may rows sites c.as_slice.result.now c.as_slice-in-processors.result.now homes (vec_items c.processors.homes) p c.tasks.rank
-    c.in_ok-critical.critical c.in_ok-sit.field-0 c.as_slice.ensures.value c.as_slice-in-processors.ensures.value c.processors.invariant.0 c.tasks.invariant.1
+    asked may rows sites homes (vec_items c.processors.homes) p c.tasks.rank
+    c.in_ok-critical.critical c.in_ok-sit.field-0 c.processors.invariant.0 c.tasks.invariant.1
     c.in_ok-critical.ensures c.in_ok-sit.ensures.fits ∙ c.if-branch.true
     in
     let found : goes_to may rows sites apps homes ≡ Some p =
@@ -58,14 +58,14 @@ tasks-preserved g c =
 
 pub attempts-preserved : goal.attempts-preserved
 attempts-preserved g c =
-    let may : Relation = g.D.Discipline.may c.args.discipline.now in
+    let may : Relation = g.D.Holding.may c.args.discipline.now in
     let t : Listing = listed c.args.table.now in
     let within : c.tasks.rank < length t.tasks =
     omega (arith, c.tasks-test.true, ap length c.tasks-rank-end.ensures.value, length-map (vec_items c.args.table.now.tasks) row_of)
     in
     let fails : attempt may c.args.processors t c.tasks.syncs ≡ Err (Late c.tasks.rank (late_with c.in_ok-critical.critical)) =
-    sym c.tasks.invariant.2 ∙ none-takes may t.tasks (vec_items c.in_ok-sites.sites) (c.args.processors - c.tasks.syncs) c.tasks.rank c.processors.processor
-    (vec_items c.tasks.homes) c.as_slice.result.now c.in_ok-critical.critical c.as_slice.ensures.value c.tasks.invariant.1 within c.processors-test.false
+    sym c.tasks.invariant.2 ∙ none-takes may t.tasks c.deref.result.now (c.args.processors - c.tasks.syncs) c.tasks.rank c.processors.processor
+    (vec_items c.tasks.homes) c.in_ok-critical.critical c.tasks.invariant.1 within c.processors-test.false
     c.in_ok-critical.ensures c.processors.invariant.1
     in
     let fewer : c.tasks.syncs < c.most_syncs-most.result = omega (arith, c.tasks.invariant.0, c.attempts.invariant.0, c.if-syncs-most.false) in (
@@ -76,14 +76,14 @@ attempts-preserved g c =
 
 pub returns-then-syncs-most : goal.returns-then-syncs-most
 returns-then-syncs-most g c =
-    let may : Relation = g.D.Discipline.may c.args.discipline.now in
+    let may : Relation = g.D.Holding.may c.args.discipline.now in
     let t : Listing = listed c.args.table.now in
     let within : c.tasks.rank < length t.tasks =
     omega (arith, c.tasks-test.true, ap length c.tasks-rank-end.ensures.value, length-map (vec_items c.args.table.now.tasks) row_of)
     in
     let fails : attempt may c.args.processors t c.tasks.syncs ≡ Err (Late c.tasks.rank (late_with c.in_ok-critical.critical)) =
-    sym c.tasks.invariant.2 ∙ none-takes may t.tasks (vec_items c.in_ok-sites.sites) (c.args.processors - c.tasks.syncs) c.tasks.rank c.processors.processor
-    (vec_items c.tasks.homes) c.as_slice.result.now c.in_ok-critical.critical c.as_slice.ensures.value c.tasks.invariant.1 within c.processors-test.false
+    sym c.tasks.invariant.2 ∙ none-takes may t.tasks c.deref.result.now (c.args.processors - c.tasks.syncs) c.tasks.rank c.processors.processor
+    (vec_items c.tasks.homes) c.in_ok-critical.critical c.tasks.invariant.1 within c.processors-test.false
     c.in_ok-critical.ensures c.processors.invariant.1
     in
     let last : c.most_syncs-most.result ≡ c.tasks.syncs = omega (arith, c.if-syncs-most.true) in
@@ -93,14 +93,14 @@ returns-then-syncs-most g c =
 
 pub returns-after-tasks : goal.returns-after-tasks
 returns-after-tasks g c =
-    let may : Relation = g.D.Discipline.may c.args.discipline.now in
+    let may : Relation = g.D.Holding.may c.args.discipline.now in
     let t : Listing = listed c.args.table.now in
     let past : length t.tasks ≤ c.tasks.rank =
     omega (arith, c.tasks-test.false, ap length c.tasks-rank-end.ensures.value, length-map (vec_items c.args.table.now.tasks) row_of)
     in
     let done : attempt may c.args.processors t c.tasks.syncs ≡ Ok (vec_items c.tasks.homes) =
     sym c.tasks.invariant.2
-    ∙ tasks-end may t.tasks (vec_items c.in_ok-sites.sites) (c.args.processors - c.tasks.syncs) (length t.tasks) c.tasks.rank (vec_items c.tasks.homes) past
+    ∙ tasks-end may t.tasks c.deref.result.now (c.args.processors - c.tasks.syncs) (length t.tasks) c.tasks.rank (vec_items c.tasks.homes) past
     in
     let spread : spread_of t c.args.processors c.tasks.syncs ≡ vec_items c.in_ok-sites.sites =
     sym (c.in_ok-sites.ensures.value ∙ ap (spread_of t c.args.processors) (sym c.tasks.invariant.0))

@@ -7,7 +7,7 @@ pub write_figures-requires : goal.write_figures-requires
 write_figures-requires c =
     let plan = c.args.self.now in
     record {
-      room = omega (arith, c.if-row-len.false, c.len.ensures, c.as_slice.ensures.len);
-      small = totals-short (seats_of plan.seating) (vec_items plan.table.tasks) (vec_items plan.blocking) (vec_items plan.bounds) c.as_slice.result.now
-          plan.kept (sym plan.bounds.ok.0 ∙ plan.complete.1) c.as_slice.ensures.value;
+      room = omega (arith, c.if-row-len.false, c.len.ensures, c.deref.ensures.len);
+      small = totals-short (seats_of plan.seating) (vec_items plan.table.tasks) (vec_items plan.weights) c.deref.result.now
+          plan.kept (sym plan.weights.ok.0 ∙ plan.complete) c.deref.ensures.value;
     }
