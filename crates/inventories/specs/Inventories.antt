@@ -3,22 +3,15 @@
 --   inventory_text  what is printed: the lines of the table that the texts declare, or those of the refusal
 --   TasksReadBack   what is printed of a table ends in lines that are themselves a task text: with the same resource
 --                  text they read as the same table
-use Rattle.std.specs.Prelude.{◌≡◌, ℕ, List, [], ◌++◌, Some, None, Ok, Err, Option, Result}
-use Rattle.tables.specs.declared.fault.ReadFault.{ReadFault}
+use Rattle.std.specs.Prelude.{◌≡◌, ℕ, List, ◌++◌, Ok, Err, Result}
 use Rattle.tables.specs.declared.fault.Refusal.{Refusal}
 use Rattle.tables.specs.Rows.{Listing}
 use Rattle.tables.specs.Reading.{read_of}
-use Rattle.tables.specs.Refusals.{refusal_of}
 use Rattle.reports.specs.Reports.{resources_text, tasks_text, table_text, refusal_text}
 
--- nothing is printed where memory was wanting, which no reading answers
-abbrev pub refused_text : Option Refusal → List ℕ → List ℕ → List ℕ
-refused_text None resources tasks = []
-refused_text (Some refusal) resources tasks = refusal_text refusal resources tasks
-
-abbrev pub answer_text : Result Listing ReadFault → List ℕ → List ℕ → List ℕ
+abbrev pub answer_text : Result Listing Refusal → List ℕ → List ℕ → List ℕ
 answer_text (Ok table) resources tasks = table_text table
-answer_text (Err fault) resources tasks = refused_text (refusal_of fault) resources tasks
+answer_text (Err refusal) resources tasks = refusal_text refusal resources tasks
 
 abbrev pub inventory_text : List ℕ → List ℕ → List ℕ
 inventory_text resources tasks = answer_text (read_of resources tasks) resources tasks

@@ -9,6 +9,7 @@ use Rattle.std.specs.List.{slice_get}
 use Rattle.std.specs.Option.{option_map}
 use Rattle.names.specs.Spelled.{spelled}
 use Rattle.tables.specs.declared.fault.Refusal.{Refusal}
+use Rattle.tables.specs.Refusals as refusals
 use Rattle.tables.specs.Rows.{Listing}
 use Rattle.analysis.specs.declared.lateness.Lateness.{Lateness}
 use Rattle.analysis.specs.declared.lateness.WeighFault.{WeighFault}
@@ -33,7 +34,7 @@ reason_of denial.ShortRow = short_row
 reason_of denial.NoTask = unknown_task
 
 abbrev pub number_of : Reason → ℕ
-number_of (unread refusal) = refusal.number
+number_of (unread refusal) = refusals.number_of refusal
 number_of no_box = 10
 number_of unlawful = 11
 number_of (late name lateness) = 12

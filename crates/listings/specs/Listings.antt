@@ -10,8 +10,10 @@
 --   details_of     what a refusal tells after its number, field by field
 --   denial_text    the line of a refusal
 --   answer_text    the lines of an answer
-use Rattle.std.specs.Prelude.{ℕ, List, [], ◌∷◌, ◌++◌, codes, decimal, slice_index, slice_index_or}
+use Rattle.std.specs.Prelude.{ℕ, List, [], ◌∷◌, ◌++◌, Ok, Err, codes, decimal, slice_index, slice_index_or, Result}
+use Rattle.std.specs.Borrow.{Bor}
 use Rattle.names.specs.Names.{encoded}
+use Rattle.tables.specs.Refusals.{refused_at}
 use Rattle.tables.specs.Rows.{Row, Listing}
 use Rattle.writing.specs.Lines.{line_of, in_turn}
 use Rattle.writing.specs.Naming.{text_name}
@@ -21,9 +23,9 @@ use Rattle.analysis.specs.declared.part.Bounds.{Bounds}
 use Rattle.analysis.specs.declared.part.PartKind.TheVariants.{Before, Critical, After}
 use Rattle.analysis.specs.Parts.{total}
 use Rattle.analysis.specs.Weighing.{Planned, no_bounds}
+use Rattle.plans.specs.declared.plan.Plan.{Plan}
 use Rattle.plans.specs.Plans.{planned}
-use Rattle.listings.specs.declared.denial.Answer.{Answer}
-use Rattle.listings.specs.declared.denial.Answer.TheVariants.{Plan, Denied}
+use Rattle.listings.specs.declared.denial.Denial.{Denial}
 use Rattle.listings.specs.Denials.{Reason, unread, no_box, unlawful, late, short_row, unknown_task, number_of, reason_of}
 
 abbrev pub head_text : ℕ → ℕ → List ℕ
@@ -32,10 +34,13 @@ head_text processors syncs = line_of (codes "plan" ∷ decimal processors ∷ de
 abbrev pub at_text : List ℕ → ℕ → List ℕ → List ℕ
 at_text sites i name = line_of (codes "at" ∷ encoded name ∷ decimal (slice_index sites i) ∷ [])
 
+-- three bounds and their sum, field by field
+abbrev pub bound_fields : Bounds → List (List ℕ)
+bound_fields x = decimal x.before ∷ decimal x.critical ∷ decimal x.after ∷ decimal (total x) ∷ []
+
 -- the line of a task that sits on this processor and has these bounds
 abbrev pub run_line : List ℕ → ℕ → Bounds → List ℕ
-run_line name home x =
-    line_of (codes "run" ∷ encoded name ∷ decimal home ∷ decimal x.before ∷ decimal x.critical ∷ decimal x.after ∷ decimal (total x) ∷ [])
+run_line name home x = line_of (codes "run" ∷ encoded name ∷ decimal home ∷ bound_fields x)
 
 abbrev pub run_text : List ℕ → List Bounds → ℕ → Row → List ℕ
 run_text homes bounds k row = run_line row.name (slice_index homes k) (slice_index_or bounds k no_bounds)
@@ -57,7 +62,7 @@ lateness_word (NoBound After) = codes "after"
 lateness_word Whole = codes "whole"
 
 abbrev pub details_of : Reason → List (List ℕ)
-details_of (unread refusal) = text_name refusal.place.text ∷ decimal refusal.place.line ∷ []
+details_of (unread refusal) = text_name (refused_at refusal).text ∷ decimal (refused_at refusal).line ∷ []
 details_of no_box = []
 details_of unlawful = []
 details_of (late name lateness) = encoded name ∷ lateness_word lateness ∷ []
@@ -67,6 +72,6 @@ details_of unknown_task = []
 abbrev pub denial_text : Reason → List ℕ
 denial_text reason = line_of (codes "refused" ∷ decimal (number_of reason) ∷ details_of reason)
 
-abbrev pub answer_text : Answer → List ℕ
-answer_text (Plan p) = plan_text (planned p.now)
-answer_text (Denied d) = denial_text (reason_of d)
+abbrev pub answer_text : Result (Bor Plan) Denial → List ℕ
+answer_text (Ok plan) = plan_text (planned plan.now)
+answer_text (Err denial) = denial_text (reason_of denial)

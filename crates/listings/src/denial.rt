@@ -6,7 +6,6 @@ ghost use Rattle.listings.specs.Denials.{denied_of, name_at, number_of, reason_o
 
 use analysis::{Lateness, WeighFault};
 use names::Name;
-use plans::Plan;
 use tables::{Refusal, Table};
 
 // A refusal as it is told.
@@ -26,20 +25,13 @@ pub enum Denial<'a> {
     NoTask,
 }
 
-// What a listing tells.
-#[derive(Clone, Copy)]
-pub enum Answer<'a> {
-    Plan(&'a Plan),
-    Denied(Denial<'a>),
-}
-
 impl Denial<'_> {
     // The number by which the refusal is known.
     pub fn number(&self) -> u8
         ensures { result ≡ number_of (reason_of self.now) }
     {
         match self {
-            Denial::Unread(refusal) => refusal.number,
+            Denial::Unread(refusal) => refusal.number(),
             Denial::Box => 10,
             Denial::Seat => 11,
             Denial::Late(_, _) => 12,
@@ -53,10 +45,7 @@ impl Denial<'_> {
 fn task_name(table: &Table, rank: usize) -> Option<&Name>
     ensures { option_map (λ name. spelled name.now) result ≡ name_at (listed table.now) rank }
 {
-    match table.tasks().get(rank) {
-        Some(task) => Some(&task.name),
-        None => None,
-    }
+    table.tasks().get(rank).map(|task| &task.name)
 }
 
 // The refusal that a fault of weighing a table amounts to; none where memory was wanting. A rank past the last task,
@@ -67,10 +56,9 @@ pub fn denied<'a>(table: &'a Table, fault: WeighFault) -> Option<Denial<'a>>
     match fault {
         WeighFault::Box => Some(Denial::Box),
         WeighFault::Seat => Some(Denial::Seat),
-        WeighFault::Late(rank, lateness) => match task_name(table, rank) {
-            Some(name) => Some(Denial::Late(name, lateness)),
-            None => None,
-        },
+        WeighFault::Late(rank, lateness) => {
+            Some(Denial::Late(task_name(table, rank)?, lateness))
+        }
         WeighFault::Memory => None,
     }
 }

@@ -5,10 +5,10 @@ ghost use Rattle.listings.specs.Listings.{denial_text, details_of, lateness_word
 
 use crate::denial::Denial;
 use analysis::{Lateness, PartKind};
-use std::alloc::{AllocError, Global};
-use writing::{push_field, push_name, push_number, text_name};
+use std::alloc::AllocError;
+use writing::{end_line, push_field};
 
-// How a task is late, in one word.
+// How a task is late, in one word. It is no `Writable`: the trait and the type are both of other crates.
 fn lateness_word(lateness: Lateness) -> &'static [u8]
     ensures { result.now ≡ lateness_word lateness }
 {
@@ -21,16 +21,17 @@ fn lateness_word(lateness: Lateness) -> &'static [u8]
 }
 
 // Writes what a refusal tells after its number.
-fn push_details(heap: Global, out: &mut Vec<u8>, denial: &Denial<'_>) -> Result<(), AllocError>
+fn push_details(out: &mut Vec<u8>, denial: &Denial<'_>) -> Result<(), AllocError>
     ensures { OnOk result (out.new.items ≡ out.old.items ++ spaced_on (details_of (reason_of denial.now))) }
 {
     match denial {
         Denial::Unread(refusal) => {
-            push_field(out, text_name(refusal.place.text))?;
-            push_number(heap, out, refusal.place.line as u64)
+            let place = refusal.place();
+            push_field(out, place.text)?;
+            push_field(out, place.line)
         }
         Denial::Late(name, lateness) => {
-            push_name(heap, out, name)?;
+            push_field(out, *name)?;
             push_field(out, lateness_word(*lateness))
         }
         Denial::Box | Denial::Seat | Denial::ShortRow | Denial::NoTask => Ok(()),
@@ -38,16 +39,11 @@ fn push_details(heap: Global, out: &mut Vec<u8>, denial: &Denial<'_>) -> Result<
 }
 
 // Writes the line of a refusal.
-pub(crate) fn push_denial(
-    heap: Global,
-    out: &mut Vec<u8>,
-    denial: &Denial<'_>,
-) -> Result<(), AllocError>
+pub(crate) fn push_denial(out: &mut Vec<u8>, denial: &Denial<'_>) -> Result<(), AllocError>
     ensures { OnOk result (out.new.items ≡ out.old.items ++ denial_text (reason_of denial.now)) }
 {
     out.extend_from_slice(b"refused")?;
-    push_number(heap, out, u64::from(denial.number()))?;
-    push_details(heap, out, denial)?;
-    out.push(b'\n')?;
-    Ok(())
+    push_field(out, denial.number())?;
+    push_details(out, denial)?;
+    end_line(out)
 }

@@ -7,6 +7,6 @@ mod fault;
 mod planning;
 mod telling;
 
-pub use denial::{Answer, Denial, denied};
+pub use denial::{Denial, denied};
 pub use fault::ListingFault;
 pub use telling::{listing, text};

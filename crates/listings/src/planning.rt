@@ -1,16 +1,17 @@
 ghost use Rattle.std.specs.Prelude.{◌≡◌, ◌++◌, OnOk, slice_index_or};
 ghost use Rattle.names.specs.Spelled.{spelled};
-ghost use Rattle.tables.specs.Listed.{listed};
 ghost use Rattle.tables.specs.Rowed.{row_of};
+ghost use Rattle.analysis.specs.Weighing.{no_bounds};
 ghost use Rattle.plans.specs.Plans.{planned};
-ghost use Rattle.listings.specs.Listings.{at_text, ats_text, head_text, run_line, plan_text, run_text, runs_text};
+ghost use Rattle.writing.specs.Lines.{spaced_on};
+ghost use Rattle.listings.specs.Listings.{at_text, ats_text, bound_fields, head_text, plan_text, run_text, runs_text};
 
 use analysis::Bounds;
 use names::Name;
 use plans::Plan;
-use std::alloc::{AllocError, Global};
-use tables::{Table, Task};
-use writing::{push_name, push_number};
+use std::alloc::AllocError;
+use tables::Task;
+use writing::{end_line, push_field};
 
 const NO_BOUNDS: Bounds = Bounds {
     before: 0,
@@ -18,117 +19,83 @@ const NO_BOUNDS: Bounds = Bounds {
     after: 0,
 };
 
-// What a row has at a place; the other past its end.
-fn at_or<T: Copy>(row: &[T], place: usize, other: T) -> T
-    ensures { result ≡ slice_index_or row.now place other }
-{
-    match row.get(place) {
-        Some(one) => *one,
-        None => other,
-    }
-}
-
 // Writes the first line of a plan.
-fn push_head(heap: Global, out: &mut Vec<u8>, processors: u8, syncs: u8) -> Result<(), AllocError>
-    ensures { OnOk result (out.new.items ≡ out.old.items ++ head_text processors syncs) }
+fn push_head(out: &mut Vec<u8>, plan: &Plan) -> Result<(), AllocError>
+    ensures { OnOk result (out.new.items ≡ out.old.items ++ head_text (planned plan.now).processors (planned plan.now).syncs) }
 {
     out.extend_from_slice(b"plan")?;
-    push_number(heap, out, u64::from(processors))?;
-    push_number(heap, out, u64::from(syncs))?;
-    out.push(b'\n')?;
-    Ok(())
+    push_field(out, plan.processors())?;
+    push_field(out, plan.syncs())?;
+    end_line(out)
 }
 
 // Writes the line of the resource at a place.
-fn push_at(
-    heap: Global,
-    out: &mut Vec<u8>,
-    sites: &[u8],
-    place: usize,
-    name: &Name,
-) -> Result<(), AllocError>
-    ensures { OnOk result (out.new.items ≡ out.old.items ++ at_text sites.now place (spelled name.now)) }
+fn push_at(out: &mut Vec<u8>, plan: &Plan, place: usize, name: &Name) -> Result<(), AllocError>
+    ensures { OnOk result (out.new.items ≡ out.old.items ++ at_text (planned plan.now).seats.resources place (spelled name.now)) }
 {
+    let site = plan.sites().get(place).copied().unwrap_or(0);
     out.extend_from_slice(b"at")?;
-    push_name(heap, out, name)?;
-    push_number(heap, out, u64::from(at_or(sites, place, 0)))?;
-    out.push(b'\n')?;
-    Ok(())
+    push_field(out, name)?;
+    push_field(out, site)?;
+    end_line(out)
 }
 
-// Writes the line of a task that sits on this processor and has these bounds.
-fn push_run_line(
-    heap: Global,
-    out: &mut Vec<u8>,
-    name: &Name,
-    home: u8,
-    bounds: Bounds,
-) -> Result<(), AllocError>
-    ensures { OnOk result (out.new.items ≡ out.old.items ++ run_line (spelled name.now) home bounds) }
+// The bounds of the task of a rank; zeros past the last.
+fn bounds_at(plan: &Plan, rank: usize) -> Bounds
+    ensures { result ≡ slice_index_or (planned plan.now).bounds rank no_bounds }
 {
-    let total = u64::from(bounds.before) + u64::from(bounds.critical) + u64::from(bounds.after);
-    out.extend_from_slice(b"run")?;
-    push_name(heap, out, name)?;
-    push_number(heap, out, u64::from(home))?;
-    push_number(heap, out, u64::from(bounds.before))?;
-    push_number(heap, out, u64::from(bounds.critical))?;
-    push_number(heap, out, u64::from(bounds.after))?;
-    push_number(heap, out, total)?;
-    out.push(b'\n')?;
-    Ok(())
+    plan.weights()
+        .get(rank)
+        .map_or(NO_BOUNDS, |weight| weight.bounds)
+}
+
+// Writes the bounds of a task's parts, and their sum, as fields.
+fn push_bounds(out: &mut Vec<u8>, bounds: Bounds) -> Result<(), AllocError>
+    ensures { OnOk result (out.new.items ≡ out.old.items ++ spaced_on (bound_fields bounds)) }
+{
+    push_field(out, bounds.before)?;
+    push_field(out, bounds.critical)?;
+    push_field(out, bounds.after)?;
+    push_field(out, bounds.total())
 }
 
 // Writes the line of the task of a rank.
-fn push_run(
-    heap: Global,
-    out: &mut Vec<u8>,
-    homes: &[u8],
-    bounds: &[Bounds],
-    rank: usize,
-    task: &Task,
-) -> Result<(), AllocError>
-    ensures { OnOk result (out.new.items ≡ out.old.items ++ run_text homes.now bounds.now rank (row_of task.now)) }
+fn push_run(out: &mut Vec<u8>, plan: &Plan, rank: usize, task: &Task) -> Result<(), AllocError>
+    ensures { OnOk result (out.new.items ≡ out.old.items ++ run_text (planned plan.now).seats.tasks (planned plan.now).bounds rank (row_of task.now)) }
 {
-    push_run_line(
-        heap,
-        out,
-        &task.name,
-        at_or(homes, rank, 0),
-        at_or(bounds, rank, NO_BOUNDS),
-    )
+    let home = plan.homes().get(rank).copied().unwrap_or(0);
+    out.extend_from_slice(b"run")?;
+    push_field(out, &task.name)?;
+    push_field(out, home)?;
+    push_bounds(out, bounds_at(plan, rank))?;
+    end_line(out)
 }
 
 // Writes the lines of the resources.
-fn push_ats(heap: Global, out: &mut Vec<u8>, sites: &[u8], table: &Table) -> Result<(), AllocError>
-    ensures { OnOk result (out.new.items ≡ out.old.items ++ ats_text sites.now (listed table.now)) }
+fn push_ats(out: &mut Vec<u8>, plan: &Plan) -> Result<(), AllocError>
+    ensures { OnOk result (out.new.items ≡ out.old.items ++ ats_text (planned plan.now).seats.resources (planned plan.now).table) }
 {
-    for (place, name) in table.resources().iter().enumerate() {
-        push_at(heap, out, sites, place, name)?;
+    for (place, name) in plan.table().resources().iter().enumerate() {
+        push_at(out, plan, place, name)?;
     }
     Ok(())
 }
 
 // Writes the lines of the tasks.
-fn push_runs(
-    heap: Global,
-    out: &mut Vec<u8>,
-    homes: &[u8],
-    bounds: &[Bounds],
-    table: &Table,
-) -> Result<(), AllocError>
-    ensures { OnOk result (out.new.items ≡ out.old.items ++ runs_text homes.now bounds.now (listed table.now)) }
+fn push_runs(out: &mut Vec<u8>, plan: &Plan) -> Result<(), AllocError>
+    ensures { OnOk result (out.new.items ≡ out.old.items ++ runs_text (planned plan.now).seats.tasks (planned plan.now).bounds (planned plan.now).table) }
 {
-    for (rank, task) in table.tasks().iter().enumerate() {
-        push_run(heap, out, homes, bounds, rank, task)?;
+    for (rank, task) in plan.table().tasks().iter().enumerate() {
+        push_run(out, plan, rank, task)?;
     }
     Ok(())
 }
 
 // Writes the lines of a plan: its first line, its resources, its tasks.
-pub(crate) fn push_plan(heap: Global, out: &mut Vec<u8>, plan: &Plan) -> Result<(), AllocError>
+pub(crate) fn push_plan(out: &mut Vec<u8>, plan: &Plan) -> Result<(), AllocError>
     ensures { OnOk result (out.new.items ≡ out.old.items ++ plan_text (planned plan.now)) }
 {
-    push_head(heap, out, plan.processors(), plan.syncs())?;
-    push_ats(heap, out, plan.sites(), plan.table())?;
-    push_runs(heap, out, plan.homes(), plan.part_bounds(), plan.table())
+    push_head(out, plan)?;
+    push_ats(out, plan)?;
+    push_runs(out, plan)
 }

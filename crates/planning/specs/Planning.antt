@@ -7,10 +7,8 @@
 use Rattle.std.specs.Prelude.{ℕ, List, [], Some, None, Ok, Err, Option, Result}
 use Rattle.disciplines.specs.Rules.{Relation}
 use Rattle.disciplines.specs.Supplied.{always, under_ceiling}
-use Rattle.tables.specs.declared.fault.ReadFault.{ReadFault}
 use Rattle.tables.specs.declared.fault.Refusal.{Refusal}
 use Rattle.tables.specs.Reading.{read_of}
-use Rattle.tables.specs.Refusals.{refusal_of}
 use Rattle.tables.specs.Rows.{Listing}
 use Rattle.analysis.specs.declared.lateness.WeighFault.{WeighFault}
 use Rattle.analysis.specs.Weighing.{Planned}
@@ -42,14 +40,10 @@ placed_text may m t = outcome_text t (place_of may m t)
 abbrev pub ruled_text : BoxLine → Listing → List ℕ
 ruled_text declared t = placed_text (relation_of declared.rule) declared.processors t
 
--- the line of a refusal of the texts; nothing where memory was wanting, which no reading answers
-abbrev pub unread_text : Option Refusal → List ℕ
-unread_text None = []
-unread_text (Some refusal) = denial_text (unread refusal)
-
-abbrev pub table_text : BoxLine → Result Listing ReadFault → List ℕ
+-- the lines for two texts as they are read: their table's, or the line of their refusal
+abbrev pub table_text : BoxLine → Result Listing Refusal → List ℕ
 table_text declared (Ok t) = ruled_text declared t
-table_text declared (Err fault) = unread_text (refusal_of fault)
+table_text declared (Err refusal) = denial_text (unread refusal)
 
 -- the lines for a box, where there is one
 abbrev pub box_text : Option BoxLine → List ℕ → List ℕ → List ℕ

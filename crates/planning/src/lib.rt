@@ -3,30 +3,15 @@
 
 ghost use Rattle.std.specs.Prelude.{◌≡◌, IfOk};
 ghost use Rattle.tables.specs.Listed.{listed};
-ghost use Rattle.listings.specs.Denials.{no_box, unread};
-ghost use Rattle.listings.specs.Listings.{answer_text, denial_text};
 ghost use Rattle.planning.specs.Planning.{placed_text, planner_text, ruled_text};
 
 use boxes::{BoxLine, Rule, parse_box};
 use disciplines::{Ceiling, Discipline, Whole};
-use listings::{Answer, Denial, denied, text};
+use listings::{Denial, denied, text};
 use placement::place;
 use std::alloc::{AllocError, Global};
-use tables::{Refusal, Table, read};
-
-// The answer to a box line that is not in form.
-fn bad_box<'a>() -> Answer<'a>
-    ensures { answer_text result ≡ denial_text no_box }
-{
-    Answer::Denied(Denial::Box)
-}
-
-// The answer to texts that declare no table.
-fn refused<'a>(refusal: Refusal) -> Answer<'a>
-    ensures { answer_text result ≡ denial_text (unread refusal) }
-{
-    Answer::Denied(Denial::Unread(refusal))
-}
+use tables::{ReadFault, Table, read};
+use texts::Texts;
 
 // The plan that is found for a table under a discipline, or why there is none, as text.
 fn placed_text<D: Discipline>(
@@ -35,14 +20,14 @@ fn placed_text<D: Discipline>(
     table: &Table,
     discipline: &D,
 ) -> Result<Vec<u8>, AllocError>
-    ensures { IfOk result (λ lines. lines.items ≡ placed_text (D.Discipline.may discipline.now) processors (listed table.now)) }
+    ensures { IfOk result (λ lines. lines.items ≡ placed_text (D.may discipline.now) processors (listed table.now)) }
 {
     match place(heap, processors, table, discipline) {
-        Ok(plan) => text(heap, &Answer::Plan(&plan)),
-        Err(fault) => match denied(table, fault) {
-            Some(denial) => text(heap, &Answer::Denied(denial)),
-            None => Err(AllocError),
-        },
+        Ok(plan) => text(heap, Ok(&plan)),
+        Err(fault) => {
+            let denial = denied(table, fault).ok_or(AllocError)?;
+            text(heap, Err(denial))
+        }
     }
 }
 
@@ -57,22 +42,15 @@ fn ruled_text(heap: Global, declared: BoxLine, table: &Table) -> Result<Vec<u8>,
 }
 
 // What the program `planner` prints for an input and two texts.
-pub fn plan(
-    heap: Global,
-    input: &[u8],
-    resources: &[u8],
-    tasks: &[u8],
-) -> Result<Vec<u8>, AllocError>
-    ensures { IfOk result (λ lines. lines.items ≡ planner_text input.now resources.now tasks.now) }
+pub fn plan(heap: Global, input: &[u8], texts: Texts<'_>) -> Result<Vec<u8>, AllocError>
+    ensures { IfOk result (λ lines. lines.items ≡ planner_text input.now texts.entry.resources.now texts.entry.tasks.now) }
 {
     let Some(declared) = parse_box(input) else {
-        return text(heap, &bad_box());
+        return text(heap, Err(Denial::Box));
     };
-    match read(heap, resources, tasks) {
+    match read(heap, texts) {
         Ok(table) => ruled_text(heap, declared, &table),
-        Err(fault) => match fault.refusal() {
-            Some(refusal) => text(heap, &refused(refusal)),
-            None => Err(AllocError),
-        },
+        Err(ReadFault::Refused(refusal)) => text(heap, Err(Denial::Unread(refusal))),
+        Err(ReadFault::Memory) => Err(AllocError),
     }
 }

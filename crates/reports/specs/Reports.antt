@@ -2,6 +2,7 @@
 --
 --   resource_text   the line of a resource, by its place and its name
 --   guard_of        the name of the resource at a task's place for it; none without a place, or where it is outside
+--   figures_of      the figures of a task, field by field: its units before, in and after its critical section, its period
 --   task_text       the line of a task
 --   resources_text  the lines of a table's resources
 --   tasks_text      the lines of a table's tasks
@@ -15,6 +16,7 @@ use Rattle.std.specs.List.{slice_get}
 use Rattle.names.specs.Names.{encoded}
 use Rattle.texts.specs.Lines.{line_at}
 use Rattle.tables.specs.declared.fault.Refusal.{Refusal}
+use Rattle.tables.specs.Refusals.{number_of, refused_at}
 use Rattle.tables.specs.Rows.{Row, Listing}
 use Rattle.usage.specs.Usage.{ceiling, users, load}
 use Rattle.writing.specs.Lines.{line_of, or_dash, in_turn}
@@ -28,9 +30,12 @@ abbrev pub guard_of : List (List ℕ) → Option ℕ → Option (List ℕ)
 guard_of resources None = None
 guard_of resources (Some i) = slice_get resources i
 
+abbrev pub figures_of : Row → List (List ℕ)
+figures_of row = decimal row.before ∷ decimal row.critical ∷ decimal row.after ∷ decimal row.period ∷ []
+
 abbrev pub task_text : List (List ℕ) → Row → List ℕ
 task_text resources row =
-    line_of (codes "task" ∷ encoded row.name ∷ decimal row.before ∷ decimal row.critical ∷ decimal row.after ∷ decimal row.period ∷ or_dash encoded (guard_of resources row.resource) ∷ [])
+    line_of (codes "task" ∷ encoded row.name ∷ figures_of row ++ or_dash encoded (guard_of resources row.resource) ∷ [])
 
 abbrev pub resources_text : Listing → List ℕ
 resources_text t = in_turn (resource_text t.tasks) 0 t.resources
@@ -42,16 +47,16 @@ abbrev pub table_text : Listing → List ℕ
 table_text t = resources_text t ++ tasks_text t
 
 abbrev pub head_text : Refusal → List ℕ
-head_text refusal = line_of (codes "refused" ∷ decimal refusal.number ∷ text_name refusal.place.text ∷ decimal refusal.place.line ∷ [])
+head_text refusal = line_of (codes "refused" ∷ decimal (number_of refusal) ∷ text_name (refused_at refusal).text ∷ decimal (refused_at refusal).line ∷ [])
 
 abbrev pub quoted : List ℕ → List ℕ
 quoted line = codes "  " ++ line ++ 10 ∷ []
 
 abbrev pub bad_name_text : Refusal → List ℕ
 bad_name_text refusal =
-    cond (nat_lt 0 refusal.place.byte)
-    (line_of (codes "  field" ∷ decimal refusal.place.field ∷ codes "byte" ∷ decimal refusal.place.byte ∷ []))
+    cond (nat_lt 0 (refused_at refusal).byte)
+    (line_of (codes "  field" ∷ decimal (refused_at refusal).field ∷ codes "byte" ∷ decimal (refused_at refusal).byte ∷ []))
     []
 
 abbrev pub refusal_text : Refusal → List ℕ → List ℕ → List ℕ
-refusal_text refusal resources tasks = head_text refusal ++ quoted (line_at resources tasks refusal.place) ++ bad_name_text refusal
+refusal_text refusal resources tasks = head_text refusal ++ quoted (line_at resources tasks (refused_at refusal)) ++ bad_name_text refusal

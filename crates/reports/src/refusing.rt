@@ -3,19 +3,19 @@ ghost use Rattle.reports.specs.Reports.{head_text, quoted, refusal_text, bad_nam
 
 use std::alloc::{AllocError, Global};
 use tables::Refusal;
-use texts::line;
-use writing::{push_field, push_number, text_name};
+use texts::Texts;
+use writing::{end_line, push_field};
 
 // Writes a refusal's number, and where it is.
-fn push_head(heap: Global, out: &mut Vec<u8>, refusal: Refusal) -> Result<(), AllocError>
-    ensures { OnOk result (out.new.items ≡ out.old.items ++ head_text refusal) }
+fn push_head(out: &mut Vec<u8>, refusal: &Refusal) -> Result<(), AllocError>
+    ensures { OnOk result (out.new.items ≡ out.old.items ++ head_text refusal.now) }
 {
+    let place = refusal.place();
     out.extend_from_slice(b"refused")?;
-    push_number(heap, out, u64::from(refusal.number))?;
-    push_field(out, text_name(refusal.place.text))?;
-    push_number(heap, out, refusal.place.line as u64)?;
-    out.push(b'\n')?;
-    Ok(())
+    push_field(out, refusal.number())?;
+    push_field(out, place.text)?;
+    push_field(out, place.line)?;
+    end_line(out)
 }
 
 // Writes a line as it stands, after two spaces.
@@ -24,20 +24,20 @@ fn push_quoted(out: &mut Vec<u8>, line: &[u8]) -> Result<(), AllocError>
 {
     out.extend_from_slice(b"  ")?;
     out.extend_from_slice(line)?;
-    out.push(b'\n')?;
-    Ok(())
+    end_line(out)
 }
 
 // Writes the field and the byte where the refusal tells a byte, as that of a bad name does.
-fn push_bad_name(heap: Global, out: &mut Vec<u8>, refusal: Refusal) -> Result<(), AllocError>
-    ensures { OnOk result (out.new.items ≡ out.old.items ++ bad_name_text refusal) }
+fn push_bad_name(out: &mut Vec<u8>, refusal: &Refusal) -> Result<(), AllocError>
+    ensures { OnOk result (out.new.items ≡ out.old.items ++ bad_name_text refusal.now) }
 {
-    if refusal.place.byte > 0 {
+    let place = refusal.place();
+    if place.byte > 0 {
         out.extend_from_slice(b"  field")?;
-        push_number(heap, out, refusal.place.field as u64)?;
-        push_field(out, b"byte")?;
-        push_number(heap, out, refusal.place.byte as u64)?;
-        out.push(b'\n')?;
+        push_field(out, place.field)?;
+        out.extend_from_slice(b" byte")?;
+        push_field(out, place.byte)?;
+        end_line(out)?;
     }
     Ok(())
 }
@@ -45,15 +45,14 @@ fn push_bad_name(heap: Global, out: &mut Vec<u8>, refusal: Refusal) -> Result<()
 // The lines of a refusal: its number and its place, the line as it stands, and of a bad name the field and the byte.
 pub fn refusal_text(
     heap: Global,
-    refusal: Refusal,
-    resources: &[u8],
-    tasks: &[u8],
+    refusal: &Refusal,
+    texts: Texts<'_>,
 ) -> Result<Vec<u8>, AllocError>
-    ensures { IfOk result (λ text. text.items ≡ refusal_text refusal resources.now tasks.now) }
+    ensures { IfOk result (λ text. text.items ≡ refusal_text refusal.now texts.entry.resources.now texts.entry.tasks.now) }
 {
     let mut out = Vec::new(heap);
-    push_head(heap, &mut out, refusal)?;
-    push_quoted(&mut out, line(resources, tasks, refusal.place))?;
-    push_bad_name(heap, &mut out, refusal)?;
+    push_head(&mut out, refusal)?;
+    push_quoted(&mut out, texts.line(refusal.place()))?;
+    push_bad_name(&mut out, refusal)?;
     Ok(out)
 }

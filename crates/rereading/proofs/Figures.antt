@@ -24,8 +24,7 @@ digits_push m (c ∷ ds) k d h e =
     cond-true (is_digit c) _ _ t ∙ digits_push (m * 10 + (c - 48)) ds k d h (sym (cond-true (is_digit c) (digits (m * 10 + (c - 48)) ds) None t) ∙ e))
     (λ (f : is_digit c ≡ false).
     let no : ◌≡◌ {A = Option ℕ} None (Some k) = sym (cond-false (is_digit c) (digits (m * 10 + (c - 48)) ds) None f) ∙ e in
-    let z : ◌≡◌ {A = ℕ} 0 1 = cc in
-    absurd (omega arith))
+    absurd (cc))
     (cases_Bool (is_digit c))
 
 -- the digits of a number write it

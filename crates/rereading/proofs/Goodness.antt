@@ -8,8 +8,8 @@ use Rattle.texts.specs.declared.place.Text.TheVariants.{Resources, Tasks}
 use Rattle.entries.specs.declared.fault.LineFault.{LineFault}
 use Rattle.entries.specs.declared.fault.LineFault.TheVariants.{Full, Twice, Unmatched, Overfull}
 use Rattle.entries.specs.Entries.{resource_line, task_line}
-use Rattle.tables.specs.declared.fault.ReadFault.{ReadFault}
-use Rattle.tables.specs.declared.fault.ReadFault.TheVariants.{Line}
+use Rattle.tables.specs.declared.fault.Refusal.{Refusal}
+use Rattle.tables.specs.declared.fault.Refusal.TheVariants.{Line}
 use Rattle.tables.specs.Rows.{Row, Listing, row_names, has, placed, sound}
 use Rattle.tables.specs.Reading.{with_resource, matched, total, fitted, place_for, with_task, with_entry, read_line, read_lines, empty_table}
 use Rattle.tables.proofs.Places.{resource-inside}
@@ -88,7 +88,7 @@ pub lines_keep : (text : Text) (P : Listing → Type 0) → ((t u : Listing) (li
 lines_keep text P each k t u [] p e = subst P (inner t u e) p
 lines_keep text P each k t u (l ∷ ls) p e = on (λ v. lines_keep text P each (k + 1) v u ls) (read_line text t l) refl e
   where
-    on : ((v : Listing) → P v → read_lines text (k + 1) v ls ≡ Ok u → P u) → (r : Result Listing LineFault) → read_line text t l ≡ r → ◌≡◌ {A = Result Listing ReadFault} (elim r [ Ok v ↦ read_lines text (k + 1) v ls | Err x ↦ Err (Line text k x) ]) (Ok u) → P u
+    on : ((v : Listing) → P v → read_lines text (k + 1) v ls ≡ Ok u → P u) → (r : Result Listing LineFault) → read_line text t l ≡ r → ◌≡◌ {A = Result Listing Refusal} (elim r [ Ok v ↦ read_lines text (k + 1) v ls | Err x ↦ Err (Line text k x) ]) (Ok u) → P u
     on rest (Ok v) is e = rest v (each t v l p is) e
     on rest (Err x) is e = never (Line text k x) u e
 

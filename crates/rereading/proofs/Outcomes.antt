@@ -1,10 +1,10 @@
 -- What a step that went well says of the steps before it.
-use Rattle.std.proofs.Common.{◌≡◌, ℕ, Bool, true, false, cond, Ok, Err, Result, refl, ap, arith}
+use Rattle.std.proofs.Common.{◌≡◌, Bool, true, false, cond, Ok, Err, Result, refl, ap}
 use Rattle.entries.specs.Entries.{◌then◌}
 
 -- no fault is an answer
 pub never : {Z X E : Type 0} (e : E) (x : X) → ◌≡◌ {A = Result X E} (Err e) (Ok x) → Z
-never e x p = let z : ◌≡◌ {A = ℕ} 0 1 = cc in absurd (omega arith)
+never e x p = absurd (cc)
 
 module _ {X E : Type 0} where
   -- where there is an answer, the test for a fault failed

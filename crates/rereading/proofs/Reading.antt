@@ -10,8 +10,8 @@ use Rattle.texts.specs.Lines.{lines}
 use Rattle.entries.specs.declared.fault.LineFault.{LineFault}
 use Rattle.entries.specs.declared.fault.LineFault.TheVariants.{Full, Twice, Unmatched, Overfull}
 use Rattle.entries.specs.Entries.{task_line}
-use Rattle.tables.specs.declared.fault.ReadFault.{ReadFault}
-use Rattle.tables.specs.declared.fault.ReadFault.TheVariants.{Long, Line}
+use Rattle.tables.specs.declared.fault.Refusal.{Refusal}
+use Rattle.tables.specs.declared.fault.Refusal.TheVariants.{Long, Line}
 use Rattle.tables.specs.Rows.{Row, Listing, row_names, has, distinct, inside}
 use Rattle.tables.specs.Reading.{or_unknown, resource_for, matched, fitted, place_for, with_task, with_entry, read_line, read_lines, empty_table, within_limit}
 use Rattle.writing.specs.Lines.{spaced, in_turn}
@@ -90,7 +90,7 @@ module _ (rs : List (List ℕ)) (done : List Row) (r : Row) (left : List Row) (g
   first-again : (k : ℕ) (rest : List ℕ) → read_lines Tasks k (table rs done) (lines (task_text rs r ++ rest)) ≡ read_lines Tasks (k + 1) (table rs (done ++ r ∷ [])) (lines rest)
   first-again k rest =
       ap (read_lines Tasks k (table rs done)) (lines-spaced (codes "task") (printed r (guard rs r)) rest (printed-filled r (guard rs r) amid-fits.range amid-legible))
-      ∙ ap (λ (u : Result Listing LineFault). elim u as (λ _. Result Listing ReadFault) [ Ok v ↦ read_lines Tasks (k + 1) v (lines rest) | Err x ↦ Err (Line Tasks k x) ]) line-again
+      ∙ ap (λ (u : Result Listing LineFault). elim u as (λ _. Result Listing Refusal) [ Ok v ↦ read_lines Tasks (k + 1) v (lines rest) | Err x ↦ Err (Line Tasks k x) ]) line-again
 
 -- the rows that are left are read after those that are done
 rows-again : (rs : List (List ℕ)) (done left : List Row) (k j : ℕ) → Good (table rs (done ++ left)) → read_lines Tasks k (table rs done) (lines (in_turn (λ _ row. task_text rs row) j left)) ≡ Ok (table rs (done ++ left))

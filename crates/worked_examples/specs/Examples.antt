@@ -15,7 +15,7 @@ use Rattle.std.specs.Prelude.{◌≡◌, ℕ, List, [], ◌∷◌, ◌++◌, Ok,
 use Prim.Native.String.{String}
 use Rattle.names.specs.declared.fault.NameFault.TheVariants.{BadEntity}
 use Rattle.names.specs.Names.{decoded}
-use Rattle.tables.specs.declared.fault.ReadFault.{ReadFault}
+use Rattle.tables.specs.declared.fault.Refusal.{Refusal}
 use Rattle.tables.specs.Reading.{read_of}
 use Rattle.tables.specs.Rows.{Listing}
 use Rattle.spreading.specs.Spreading.{loads}
@@ -37,7 +37,7 @@ pub record Desk : Type 0 where
   pub resources : List String
   pub tasks : List String
 
-abbrev pub table_of : Desk → Result Listing ReadFault
+abbrev pub table_of : Desk → Result Listing Refusal
 table_of desk = read_of (written desk.resources) (written desk.tasks)
 
 abbrev pub Gives : {X E : Type 0} → Result X E → (X → Type 0) → Type 0

@@ -2,7 +2,33 @@
 #![tactic(auto)]
 
 mod fields;
-mod naming;
 
-pub use fields::{push_field, push_name, push_number};
-pub use naming::text_name;
+pub use fields::{Writable, end_line, push_field};
+
+#[cfg(test)]
+mod tests {
+    use super::*;
+    use names::NameBuffer;
+    use std::test::Fail;
+    use texts::Text;
+
+    #[test]
+    fn a_line_has_fields_of_every_kind(rt: HostRuntime) -> Result<(), Fail> {
+        let book = NameBuffer::new(rt.alloc())?.decode(b"P&amp;L").ok();
+        let mut out = Vec::new(rt.alloc());
+        push_field(&mut out, b"run" as &[u8])?;
+        push_field(&mut out, book.as_ref())?;
+        push_field(&mut out, Text::Tasks)?;
+        push_field(&mut out, 16u8)?;
+        push_field(&mut out, 10_000_000u32)?;
+        push_field(&mut out, 300usize)?;
+        push_field(&mut out, Some(10_000_000_000u64))?;
+        push_field(&mut out, None::<u64>)?;
+        end_line(&mut out)?;
+        assert_eq!(rt;
+            out.as_slice(),
+            b" run P&amp;L tasks 16 10000000 300 10000000000 -\n" as &[u8]
+        );
+        Ok(())
+    }
+}

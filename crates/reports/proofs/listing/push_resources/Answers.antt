@@ -1,16 +1,10 @@
-use Rattle.std.proofs.Common.{sym, ◌∙◌}
 use Rattle.names.specs.Spelled.{spelled}
 use Rattle.tables.specs.Listed.{listed}
 use Rattle.reports.specs.Reports.{resource_text}
-use Rattle.writing.proofs.Turns.{turn_more, turn_last}
+use Rattle.writing.proofs.Turns.{turn_more}
 use Rattle.reports.proofs.listing.push_resources.Goals as goal
 
 pub loop-place-preserved : goal.loop-place-preserved
 loop-place-preserved c =
-    turn_more (resource_text (listed c.args.table.now).tasks) spelled _ _ _ _ _ c.loop-place-test.true c.name-item.is c.in_ok-push_resource.ensures
-    ∙ c.loop-place.invariant
-
-pub returns : goal.returns
-returns c =
-    sym (turn_last (resource_text (listed c.args.table.now).tasks) spelled _ _ _ c.loop-place-test.false)
-    ∙ c.loop-place.invariant
+    turn_more (resource_text (listed c.args.table.now).tasks) spelled _ _ _ _ _ _
+    c.loop-place-test.true c.name-item.is c.loop-place.invariant c.in_ok-push_resource.ensures
