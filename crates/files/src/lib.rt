@@ -16,12 +16,7 @@ pub fn or_empty(heap: Global, read: io::Result<Vec<u8>>) -> io::Result<Vec<u8>>
     ensures failed { IfErr read (λ e. error_kind e ≢ NotFound → result ≡ Err e) }
 {
     match read {
-        Ok(bytes) => Ok(bytes),
-        Err(e) => {
-            if e.kind() == ErrorKind::NotFound {
-                return Ok(Vec::new(heap));
-            }
-            Err(e)
-        }
+        Err(e) if e.kind() == ErrorKind::NotFound => Ok(Vec::new(heap)),
+        read => read,
     }
 }

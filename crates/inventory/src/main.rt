@@ -5,10 +5,15 @@ use files::or_empty;
 use inventories::inventory;
 use std::io::Write;
 use std::{fs, io};
+use texts::Texts;
 
 fn main(rt: HostRuntime) -> io::Result<()> {
     let resources = or_empty(rt.alloc(), fs::read(&rt, "resources.txt"))?;
     let tasks = or_empty(rt.alloc(), fs::read(&rt, "tasks.txt"))?;
-    let report = inventory(rt.alloc(), resources.as_slice(), tasks.as_slice())?;
+    let texts = Texts {
+        resources: resources.as_slice(),
+        tasks: tasks.as_slice(),
+    };
+    let report = inventory(rt.alloc(), texts)?;
     rt.stdout().write_all(report.as_slice())
 }

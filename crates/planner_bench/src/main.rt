@@ -9,18 +9,14 @@ use placement::place;
 use std::alloc::Global;
 use std::{env, fs};
 use tables::{Table, read};
+use texts::Texts;
 
 // The sum of all bounds of the plan that is found, or the rank of the late task.
 fn outcome(heap: Global, table: &Table) -> anyhow::Result<u64> {
     match place(heap, 16, table, &Ceiling) {
         Ok(plan) => {
-            let mut sum: u64 = 0;
-            for three in plan.part_bounds() {
-                for bound in [three.before, three.critical, three.after] {
-                    sum = sum.saturating_add(u64::from(bound));
-                }
-            }
-            Ok(sum)
+            let totals = plan.weights().iter().map(|weight| weight.bounds.total());
+            Ok(totals.fold(0, u64::saturating_add))
         }
         Err(WeighFault::Late(rank, _)) => Ok(rank as u64),
         Err(_) => Err(anyhow!("memory was wanting")),
@@ -30,13 +26,14 @@ fn outcome(heap: Global, table: &Table) -> anyhow::Result<u64> {
 fn main(rt: HostRuntime) -> anyhow::Result<()> {
     let resources = fs::read(&rt, "resources.txt")?;
     let tasks = fs::read(&rt, "tasks.txt")?;
-    let Ok(table) = read(rt.alloc(), resources.as_slice(), tasks.as_slice()) else {
-        return Err(anyhow!("the texts declare no table"));
+    let texts = Texts {
+        resources: resources.as_slice(),
+        tasks: tasks.as_slice(),
     };
-    let mut count: u64 = 1;
-    for argument in env::args(&rt)?.skip(1) {
-        count = argument.as_str().parse::<u64>()?;
-    }
+    let table = read(rt.alloc(), texts).map_err(|_| anyhow!("the texts declare no table"))?;
+    let count: u64 = env::args(&rt)?
+        .nth(1)
+        .map_or(Ok(1), |argument| argument.as_str().parse())?;
     let mut total: u64 = 0;
     for _ in 0..count {
         total = total.saturating_add(outcome(rt.alloc(), &table)?);

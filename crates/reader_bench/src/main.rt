@@ -2,30 +2,33 @@
 #![tactic(auto)]
 
 use anyhow::anyhow;
+use std::alloc::Global;
 use std::{env, fs};
 use tables::{ReadFault, read};
+use texts::Texts;
 
 // How many rows were read, or the number of the refusal.
-fn rows(heap: std::alloc::Global, resources: &[u8], tasks: &[u8]) -> anyhow::Result<usize> {
-    match read(heap, resources, tasks) {
+fn rows(heap: Global, texts: Texts) -> anyhow::Result<usize> {
+    match read(heap, texts) {
         Ok(table) => Ok(table.resources().len().saturating_add(table.tasks().len())),
-        Err(fault) => match fault.refusal() {
-            Some(refusal) => Ok(refusal.number as usize),
-            None => Err(anyhow!("memory was wanting")),
-        },
+        Err(ReadFault::Refused(refusal)) => Ok(usize::from(refusal.number())),
+        Err(ReadFault::Memory) => Err(anyhow!("memory was wanting")),
     }
 }
 
 fn main(rt: HostRuntime) -> anyhow::Result<()> {
     let resources = fs::read(&rt, "resources.txt")?;
     let tasks = fs::read(&rt, "tasks.txt")?;
-    let mut count: u64 = 1;
-    for argument in env::args(&rt)?.skip(1) {
-        count = argument.as_str().parse::<u64>()?;
-    }
+    let texts = Texts {
+        resources: resources.as_slice(),
+        tasks: tasks.as_slice(),
+    };
+    let count: u64 = env::args(&rt)?
+        .nth(1)
+        .map_or(Ok(1), |argument| argument.as_str().parse())?;
     let mut total: usize = 0;
     for _ in 0..count {
-        total = total.saturating_add(rows(rt.alloc(), resources.as_slice(), tasks.as_slice())?);
+        total = total.saturating_add(rows(rt.alloc(), texts)?);
     }
     println!(rt; "reads {count} rows {total}")?;
     Ok(())
