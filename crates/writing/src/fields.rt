@@ -4,6 +4,7 @@ ghost use Rattle.names.specs.Spelled.{spelled};
 ghost use Rattle.writing.specs.Lines.{or_dash};
 ghost use Rattle.writing.specs.Naming.{text_name};
 
+use crate::naming::text_name;
 use names::Name;
 use std::alloc::AllocError;
 use texts::Text;
@@ -42,7 +43,7 @@ impl Writable for u8 {
     ghost written = { decimal };
 
     fn write(self, out: &mut Vec<u8>) -> Result<(), AllocError> {
-        u64::from(self).write(out)
+        u32::from(self).write(out)
     }
 }
 
@@ -77,10 +78,7 @@ impl Writable for Text {
     ghost written = { text_name };
 
     fn write(self, out: &mut Vec<u8>) -> Result<(), AllocError> {
-        match self {
-            Text::Resources => out.extend_from_slice(b"resources"),
-            Text::Tasks => out.extend_from_slice(b"tasks"),
-        }
+        out.extend_from_slice(text_name(self))
     }
 }
 

@@ -2,8 +2,10 @@
 #![tactic(auto)]
 
 mod fields;
+mod naming;
 
 pub use fields::{Writable, end_line, push_field};
+pub use naming::text_name;
 
 #[cfg(test)]
 mod tests {

@@ -1,0 +1,14 @@
+ghost use Rattle.std.specs.Prelude.{◌≡◌};
+ghost use Rattle.writing.specs.Naming.{text_name};
+
+use texts::Text;
+
+// A text as it is named.
+pub fn text_name(text: Text) -> &'static [u8]
+    ensures { result.now ≡ text_name text }
+{
+    match text {
+        Text::Resources => b"resources",
+        Text::Tasks => b"tasks",
+    }
+}
