@@ -48,6 +48,7 @@ pub(crate) fn locate<P: Drop, T, E>(place: P, found: Result<T, E>) -> Result<T, 
     found.map_err(|fault| At { place, fault })
 }
 
+// Faults are taken up by hand, since a clause names the one that a question mark makes, which a derived `From` does not tell.
 impl From<At<usize, NameFault>> for LineFault {
     ghost from_gives = { λ e r. r ≡ Name e.place e.fault };
 

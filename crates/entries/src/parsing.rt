@@ -32,7 +32,7 @@ fn guard_at(number: usize, field: Field, room: NameBuffer) -> Result<Option<Name
 {
     match field {
         Field::Hyphen => Ok(None),
-        _ => Ok(Some(name_at(number, field, room)?)),
+        _ => name_at(number, field, room).map(Some),
     }
 }
 

@@ -13,7 +13,7 @@ fn number(bytes: &[u8]) -> Option<Ticks>
     ensures { result ≡ digits 0 bytes.now }
 {
     bytes.iter().try_fold(0, |n, d| match d {
-        b'0'..=b'9' => Some(n * 10 + (*d - b'0') as Ticks),
+        b'0'..=b'9' => Some(n * 10 + Ticks::from(*d - b'0')),
         _ => None,
     })
 }

@@ -43,7 +43,7 @@ pub trait LineForm<'a> {
     fn count() -> usize
         ensures { result ≡ count };
 
-    // The word that a line begins with.
+    // The word that a line begins with; a function for the same reason.
     fn keyword() -> &'static [u8]
         ensures { result.now ≡ keyword };
 
@@ -74,6 +74,10 @@ pub trait LineForm<'a> {
     }
 }
 
+const RESOURCE_FIELDS: usize = 2;
+
+const TASK_FIELDS: usize = 7;
+
 // A line in the form `resource NAME`.
 impl<'a> LineForm<'a> for ResourceLine<'a> {
     ghost count = { 2 };
@@ -87,7 +91,7 @@ impl<'a> LineForm<'a> for ResourceLine<'a> {
     fn count() -> usize
         ensures { result ≡ 2 }
     {
-        2
+        RESOURCE_FIELDS
     }
 
     fn keyword() -> &'static [u8]
@@ -126,7 +130,7 @@ impl<'a> LineForm<'a> for TaskLine<'a> {
     fn count() -> usize
         ensures { result ≡ 7 }
     {
-        7
+        TASK_FIELDS
     }
 
     fn keyword() -> &'static [u8]
