@@ -4,6 +4,7 @@
 --   best-or-zero    the greatest of a list, or 0 if there is none, is the greatest of 0 and the list
 use Rattle.std.proofs.Common.{◌≡◌, ℕ, None, Some, Option, unwrap_or, option_map, zero, suc, ◌+◌, max, Bool, true, false, cond, List, [], ◌∷◌, ◌++◌, map, fold, refl, sym, ap, ◌∙◌, add-one, zero-add, arith}
 use Rattle.std.proofs.lemmas.List.{map-id}
+use Rattle.std.proofs.lemmas.Iterator.Adapters.{option_map_id}
 use Rattle.std.proofs.lemmas.List.FromFn.{map-range_with_len_more}
 use Rattle.std.proofs.lemmas.List.Sums.{fold-append}
 use Rattle.std.specs.List.{filter, range_with_len, reduce}
@@ -39,10 +40,6 @@ module _ (p : ℕ → Bool) (h : ℕ → ℕ) where
   pub greatest-range : (n : ℕ) → fold max 0 (map h (filter p (range_with_len 0 n))) ≡ greatest (λ j. cond (p j) (h j) 0) n
   greatest-range n = fold-filtered 0 (range_with_len 0 n) ∙ greatest-fold (λ j. cond (p j) (h j) 0) n
 
-as-it-is : (o : Option ℕ) → o ≡ option_map (λ (x : ℕ). x) o
-as-it-is None = refl
-as-it-is (Some x) = refl
-
 greatest-of : (best : Option ℕ) (xs : List ℕ) → best ≡ reduce max xs → unwrap_or best 0 ≡ fold max 0 xs
 greatest-of best [] e = ap (λ (o : Option ℕ). unwrap_or o 0) e
 greatest-of best (x ∷ xs) e =
@@ -50,4 +47,4 @@ greatest-of best (x ∷ xs) e =
     ap (λ (o : Option ℕ). unwrap_or o 0) e ∙ ap (λ (n : ℕ). fold max n xs) first
 
 pub best-or-zero : (best : Option ℕ) (xs : List ℕ) → option_map (λ (x : ℕ). x) best ≡ reduce max xs → unwrap_or best 0 ≡ fold max 0 xs
-best-or-zero best xs e = greatest-of best xs (as-it-is best ∙ e)
+best-or-zero best xs e = greatest-of best xs (sym (option_map_id best) ∙ e)

@@ -13,7 +13,8 @@ use bounds::{Demand, least_bound};
 use fields::Ticks;
 use std::alloc::{AllocError, Global};
 
-// The least number of ticks, from 1 to the limit, that is no less than the demand within it.
+// The least number of ticks, from 1 to the limit, that is no less than the demand within it. It is at most the limit, so
+// the cast loses nothing.
 fn least_ticks(demand: &Demand, limit: Ticks) -> Option<Ticks>
     ensures { result ≡ least (λ t. demand.now.base + interference demand.now.terms.items t) limit }
 {
@@ -64,7 +65,7 @@ impl Seated<'_> {
     }
 
     // The judgement of the task `rank`, whose critical part has this bound, or none. Neither of its other parts asks
-    // for a blocking term.
+    // for a blocking term. A result in a result: who tries seats asks whether the inner one is good, and goes on.
     pub fn judge_with(
         self,
         heap: Global,
@@ -91,7 +92,7 @@ impl Seated<'_> {
     }
 
     // The three bounds of the task `rank` under its blocking term; else its first part that has none, or the whole
-    // where they add up to too much.
+    // where they add up to too much. A result in a result, as above.
     pub fn judge(
         self,
         heap: Global,

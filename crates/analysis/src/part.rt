@@ -12,7 +12,7 @@ pub enum PartKind {
 }
 
 // A number of ticks for each part of a task.
-#[derive(Clone, Copy, Debug)]
+#[derive(Clone, Copy, Debug, Default)]
 pub struct Bounds {
     pub before: Ticks,
     pub critical: Ticks,

@@ -1,6 +1,7 @@
 use tables::Table;
 
-// A table with a processor for each of its resources and of its tasks.
+// A table with the processors of its resources and of its tasks. Where such a row ends too early, a seat past its end counts
+// as processor 0.
 #[derive(Clone, Copy)]
 pub struct Seated<'a> {
     pub table: &'a Table,

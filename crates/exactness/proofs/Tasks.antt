@@ -3,9 +3,10 @@
 --   terms_to-length,   terms_to-at    there are n blocking terms, each that of the task at its place
 --   outcome            the first n tasks are all judged in time, or the one that is named is the first judged late
 --   bounds_to-length,  bounds_to-at  there are n bounds, each what the task at its place is judged to have
+--   bounds_to-all      n bounds that the tasks are judged to have are the bounds of the first n tasks
 --   weighed-keeps      the bounds of all tasks fit them with the blocking terms
-use Rattle.std.proofs.Common.{◌≡◌, ℕ, zero, suc, ◌<◌, ◌≤◌, Bool, true, List, [], ◌∷◌, ◌++◌, length, get_or, Ok, Err, Result, sym, refl, subst, ⊎_elim, arith}
-use Rattle.std.proofs.lemmas.List.{get_or_append_left, get_or_push, length_push}
+use Rattle.std.proofs.Common.{◌≡◌, ℕ, zero, suc, ◌<◌, ◌≤◌, Bool, true, List, [], ◌∷◌, ◌++◌, length, get_or, take, Ok, Err, Result, sym, refl, ap, ◌∙◌, subst, ⊎_elim, add-one, arith}
+use Rattle.std.proofs.lemmas.List.{get_or_append_left, get_or_push, length_push, take_all, take_more}
 use Rattle.std.proofs.lemmas.Bool.{and_from, cases_lt}
 use Rattle.disciplines.specs.Rules.{Relation}
 use Rattle.tables.specs.Rows.{Row}
@@ -86,6 +87,25 @@ module _ (may : Relation) (s : Seats) (rows : List Row) where
   pub bounds_to-at : (n : ℕ) (bounds : List Bounds) → bounds_to may s rows n ≡ Ok bounds
       → (k : ℕ) → k < n → judged s rows (blocking may s rows k) k ≡ Ok (get_or bounds k no_bounds)
   bounds_to-at n bounds e = let o : Outcome n (Ok bounds) = subst (Outcome n) e (outcome n) in o.1
+
+  -- where the first n bounds of a list are those of the first n tasks, so are the first n + 1 if the next one is judged so too
+  bounds_to-more : (n : ℕ) (bounds : List Bounds) → n < length bounds → bounds_to may s rows n ≡ Ok (take n bounds)
+      → judged_at n ≡ Ok (get_or bounds n no_bounds) → bounds_to may s rows (suc n) ≡ Ok (take (suc n) bounds)
+  bounds_to-more n bounds h e last =
+      ap (or_late may s rows n) e ∙ ap (with_task may s rows n (take n bounds)) last
+      ∙ ap Ok (sym (rw add-one at (take_more bounds n no_bounds h)))
+
+  bounds_to-front : (n : ℕ) (bounds : List Bounds) → n ≤ length bounds
+      → ((k : ℕ) → k < n → judged_at k ≡ Ok (get_or bounds k no_bounds)) → bounds_to may s rows n ≡ Ok (take n bounds)
+  bounds_to-front zero bounds h each = refl
+  bounds_to-front (suc n) bounds h each =
+      bounds_to-more n bounds (omega arith) (bounds_to-front n bounds (omega arith) (λ k l. each k (omega arith)))
+      (each n (omega arith))
+
+  pub bounds_to-all : (n : ℕ) (bounds : List Bounds) → length bounds ≡ n
+      → ((k : ℕ) → k < n → judged s rows (blocking may s rows k) k ≡ Ok (get_or bounds k no_bounds))
+      → bounds_to may s rows n ≡ Ok bounds
+  bounds_to-all n bounds e each = bounds_to-front n bounds (omega arith) each ∙ ap Ok (take_all n bounds (omega arith))
 
 -- what holds of each of the first n numbers holds of all of them
 all_to-each : (f : ℕ → Bool) (n : ℕ) → ((k : ℕ) → k < n → f k ≡ true) → all_to f n ≡ true

@@ -13,12 +13,6 @@ use std::alloc::AllocError;
 use tables::Task;
 use writing::{end_line, push_field};
 
-const NO_BOUNDS: Bounds = Bounds {
-    before: 0,
-    critical: 0,
-    after: 0,
-};
-
 // Writes the first line of a plan.
 fn push_head(out: &mut Vec<u8>, plan: &Plan) -> Result<(), AllocError>
     ensures { OnOk result (out.new.items ≡ out.old.items ++ head_text (planned plan.now).processors (planned plan.now).syncs) }
@@ -46,7 +40,8 @@ fn bounds_at(plan: &Plan, rank: usize) -> Bounds
 {
     plan.weights()
         .get(rank)
-        .map_or(NO_BOUNDS, |weight| weight.bounds)
+        .map(|weight| weight.bounds)
+        .unwrap_or_default()
 }
 
 // Writes the bounds of a task's parts, and their sum, as fields.
@@ -71,7 +66,7 @@ fn push_run(out: &mut Vec<u8>, plan: &Plan, rank: usize, task: &Task) -> Result<
     end_line(out)
 }
 
-// Writes the lines of the resources.
+// Writes the lines of the resources. A loop, since of a text that a closure changes a proof knows nothing.
 fn push_ats(out: &mut Vec<u8>, plan: &Plan) -> Result<(), AllocError>
     ensures { OnOk result (out.new.items ≡ out.old.items ++ ats_text (planned plan.now).seats.resources (planned plan.now).table) }
 {
@@ -81,7 +76,7 @@ fn push_ats(out: &mut Vec<u8>, plan: &Plan) -> Result<(), AllocError>
     Ok(())
 }
 
-// Writes the lines of the tasks.
+// Writes the lines of the tasks. A loop for the same reason.
 fn push_runs(out: &mut Vec<u8>, plan: &Plan) -> Result<(), AllocError>
     ensures { OnOk result (out.new.items ≡ out.old.items ++ runs_text (planned plan.now).seats.tasks (planned plan.now).bounds (planned plan.now).table) }
 {
