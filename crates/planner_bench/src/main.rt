@@ -32,8 +32,8 @@ fn main(rt: HostRuntime) -> anyhow::Result<()> {
     };
     let table = read(rt.alloc(), texts).map_err(|_| anyhow!("the texts declare no table"))?;
     let count: u64 = env::args(&rt)?
-        .nth(1)
-        .map_or(Ok(1), |argument| argument.as_str().parse())?;
+        .skip(1)
+        .try_fold(1, |_, argument| argument.as_str().parse())?;
     let mut total: u64 = 0;
     for _ in 0..count {
         total = total.saturating_add(outcome(rt.alloc(), &table)?);

@@ -24,8 +24,8 @@ fn main(rt: HostRuntime) -> anyhow::Result<()> {
         tasks: tasks.as_slice(),
     };
     let count: u64 = env::args(&rt)?
-        .nth(1)
-        .map_or(Ok(1), |argument| argument.as_str().parse())?;
+        .skip(1)
+        .try_fold(1, |_, argument| argument.as_str().parse())?;
     let mut total: usize = 0;
     for _ in 0..count {
         total = total.saturating_add(rows(rt.alloc(), texts)?);

@@ -6,15 +6,30 @@ use std::io::{ErrorKind, Write};
 use std::{fs, io};
 use texts::Texts;
 
-// A case is `case RLEN TLEN` and LF, then so many bytes of a resource text, so many of a task text, and LF. What follows
-// it comes last.
+// The number that the digits at the front of the bytes write, and what follows the byte after them.
+fn number(bytes: &[u8]) -> Option<(usize, &[u8])> {
+    let end = bytes.iter().position(|byte| !byte.is_ascii_digit())?;
+    let number = bytes[..end]
+        .iter()
+        .try_fold(0, |number: usize, digit| match digit {
+            b'0'..=b'9' => number
+                .checked_mul(10)?
+                .checked_add(usize::from(*digit - b'0')),
+            _ => None,
+        })?;
+    Some((number, &bytes[end + 1..]))
+}
+
+// A case is `case RLEN TLEN` and LF, then so many bytes of a resource text, so many of a task text, and LF. It answers the
+// two texts and what follows the case.
 fn case(bytes: &[u8]) -> Option<(Texts<'_>, &[u8])> {
-    let end = bytes.iter().position(|byte| *byte == b'\n')?;
-    let lengths = str::from_utf8(&bytes[..end]).ok()?.strip_prefix("case ")?;
-    let (resource_len, task_len) = lengths.split_once(' ')?;
-    let (resources, rest) = bytes[end + 1..].split_at_checked(resource_len.parse().ok()?)?;
-    let (tasks, rest) = rest.split_at_checked(task_len.parse().ok()?)?;
-    Some((Texts { resources, tasks }, rest.strip_prefix(b"\n")?))
+    let (_, rest) = bytes.split_at_checked(5)?;
+    let (resource_len, rest) = number(rest)?;
+    let (task_len, rest) = number(rest)?;
+    let (resources, rest) = rest.split_at_checked(resource_len)?;
+    let (tasks, rest) = rest.split_at_checked(task_len)?;
+    let (_, rest) = rest.split_at_checked(1)?;
+    Some((Texts { resources, tasks }, rest))
 }
 
 fn main(rt: HostRuntime) -> io::Result<()> {
