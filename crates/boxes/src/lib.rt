@@ -34,6 +34,7 @@ impl Rule {
     }
 }
 
+// The figure is at most 16, so the cast loses nothing.
 fn box_with(figure: &[u8], word: &[u8]) -> Option<BoxLine>
     ensures { result ≡ box_with figure.now word.now }
 {

@@ -24,6 +24,7 @@ impl Holding for Ceiling {
     }
 }
 
+// A body of its own, since one that the trait provides would promise the trait's clauses alone.
 impl Discipline for Ceiling {
     fn name(&mut self, row: &[OpenSection]) -> Option<usize>
         ensures rules { Answers under_ceiling row.now result }

@@ -5,7 +5,8 @@ ghost use Rattle.disciplines.specs.Chosen.{Within, best_in, chosen, holder_of, h
 use crate::discipline::Holding;
 use crate::section::{OpenSection, Section};
 
-// The first place of a best-ranked section.
+// The first place of a best-ranked section. Apart from the next, since with the test as a closure the contract would speak
+// of what the closure answers.
 fn find_best(row: &[OpenSection]) -> Option<usize>
     ensures first { result ≡ best_in row.now }
     ensures within { Within row.now result }

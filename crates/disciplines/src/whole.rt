@@ -24,6 +24,7 @@ impl Holding for Whole {
     }
 }
 
+// A body of its own, since one that the trait provides would promise the trait's clauses alone.
 impl Discipline for Whole {
     fn name(&mut self, row: &[OpenSection]) -> Option<usize>
         ensures rules { Answers always row.now result }

@@ -16,6 +16,7 @@ pub fn unit(field: &[u8]) -> Option<Decoded<'_>>
     Some(Decoded { byte, rest })
 }
 
+// Apart from `unit`, so that a wrong `unit` is refused for its own contract.
 fn front(field: &[u8]) -> Option<(u8, &[u8])>
     ensures { MatchOption result (width five field.now ≡ 0) (λ u. (0 < width five field.now) × (u.0 ≡ value five field.now) × (u.1.now ≡ drop (width five field.now) field.now) × (length u.1.now + width five field.now ≡ length field.now)) }
 {

@@ -38,7 +38,8 @@ fn most_syncs(processors: u8, table: &Table) -> u8
     table.resources().len().min(usize::from(processors - 1)) as u8
 }
 
-// The seating that is found for a table: the first attempt that seats every task, else the last one's failure.
+// The seating that is found for a table: the first attempt that seats every task, else the last one's failure. By a rule of
+// this project the loops over attempts, tasks and processors are labelled, and the attempts' result comes by `break`.
 fn find_seats<D: Discipline>(
     heap: Global,
     processors: u8,

@@ -31,7 +31,7 @@ fn placed_text<D: Discipline>(
     }
 }
 
-// The same under the discipline that a box line names.
+// The same under the discipline that a box line names. An arm for each type, so that each call is bound by its type.
 fn ruled_text(heap: Global, declared: BoxLine, table: &Table) -> Result<Vec<u8>, AllocError>
     ensures { IfOk result (λ lines. lines.items ≡ ruled_text declared (listed table.now)) }
 {
@@ -52,5 +52,51 @@ pub fn plan(heap: Global, input: &[u8], texts: Texts<'_>) -> Result<Vec<u8>, All
         Ok(table) => ruled_text(heap, declared, &table),
         Err(ReadFault::Refused(refusal)) => text(heap, Err(Denial::Unread(refusal))),
         Err(ReadFault::Memory) => Err(AllocError),
+    }
+}
+
+#[cfg(test)]
+mod tests {
+    use super::*;
+    use analysis::{PartKind, Seated};
+    use std::test::Fail;
+
+    const TASKS: &[u8] = b"task quote 2 1 2 10 surface\ntask log 12 0 0 50 -\n";
+
+    const TEXTS: Texts<'static> = Texts {
+        resources: b"resource surface\n",
+        tasks: TASKS,
+    };
+
+    #[test]
+    fn a_plan_is_printed(rt: HostRuntime) -> Result<(), Fail> {
+        let lines = plan(rt.alloc(), b"3 whole\n", TEXTS)?;
+        assert_eq!(rt;
+            lines.as_slice(),
+            b"plan 3 1\nat surface 2\nrun quote 0 2 1 2 5\nrun log 0 20 0 0 20\n" as &[u8]
+        );
+        Ok(())
+    }
+
+    #[test]
+    fn a_task_is_judged_where_it_sits(rt: HostRuntime) -> Result<(), Fail> {
+        let table = read(rt.alloc(), TEXTS).ok();
+        let Some(table) = &table else {
+            return Err(Fail::from(AllocError));
+        };
+        let seated = Seated {
+            table,
+            sites: &[2],
+            homes: &[0, 1],
+        };
+        let before = seated.part_bound(rt.alloc(), 0, PartKind::Before, 1)?;
+        assert_eq!(rt; before, Some(12));
+        let judged = seated.judge(rt.alloc(), 0, 0)?.map(|bounds| bounds.total());
+        assert_eq!(rt; judged.ok(), Some(5));
+        let judged = seated
+            .judge_with(rt.alloc(), Some(0), 1)?
+            .map(|bounds| bounds.total());
+        assert_eq!(rt; judged.ok(), Some(12));
+        Ok(())
     }
 }

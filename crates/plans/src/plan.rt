@@ -15,7 +15,8 @@ pub(crate) mod weighing;
 
 // A table that is seated in a box, with a blocking term and three bounds for each task. A plan is empty, with no task
 // and no processor, or was filled by `weigh`: its seating is lawful, and its bounds meet the inequalities of all parts
-// with its own blocking terms and add up to at most the deadlines.
+// with its own blocking terms and add up to at most the deadlines. The table, the seating and the weights each have a row by
+// rank, since each is made, and lent, as a whole.
 #[derive(Drop)]
 pub struct Plan {
     processors: u8,

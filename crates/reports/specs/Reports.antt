@@ -2,7 +2,7 @@
 --
 --   resource_text   the line of a resource, by its place and its name
 --   guard_of        the name of the resource at a task's place for it; none without a place, or where it is outside
---   figures_of      the figures of a task, field by field: its units before, in and after its critical section, its period
+--   figures_of      the figures of a task, field by field: its ticks before, in and after its critical section, its period
 --   task_text       the line of a task
 --   resources_text  the lines of a table's resources
 --   tasks_text      the lines of a table's tasks

@@ -44,7 +44,7 @@ fn push_resource(
     end_line(out)
 }
 
-// Writes the figures of a task as fields: its units before, in and after its critical section, and its period.
+// Writes the figures of a task as fields: its ticks before, in and after its critical section, and its period.
 fn push_figures(out: &mut Vec<u8>, task: &Task) -> Result<(), AllocError>
     ensures { OnOk result (out.new.items ≡ out.old.items ++ spaced_on (figures_of (row_of task.now))) }
 {
@@ -65,7 +65,7 @@ fn push_task(out: &mut Vec<u8>, table: &Table, task: &Task) -> Result<(), AllocE
     end_line(out)
 }
 
-// Writes the lines of the resources.
+// Writes the lines of the resources. A loop, since of a text that a closure changes a proof knows nothing.
 fn push_resources(out: &mut Vec<u8>, table: &Table) -> Result<(), AllocError>
     ensures { OnOk result (out.new.items ≡ out.old.items ++ resources_text (listed table.now)) }
 {
@@ -75,7 +75,7 @@ fn push_resources(out: &mut Vec<u8>, table: &Table) -> Result<(), AllocError>
     Ok(())
 }
 
-// Writes the lines of the tasks.
+// Writes the lines of the tasks. A loop for the same reason.
 fn push_tasks(out: &mut Vec<u8>, table: &Table) -> Result<(), AllocError>
     ensures { OnOk result (out.new.items ≡ out.old.items ++ tasks_text (listed table.now)) }
 {

@@ -17,7 +17,7 @@ pub(crate) struct Chart {
 }
 
 // The first of the places below `count` that no other beats; 0 where there is none. A loop, since a fold's proof does not
-// find that both places asked about are below `count`.
+// find that both places asked about are below `count`, and `min_by_key` has no key for what beats what.
 fn first_best<F: Fn(usize, usize) -> bool>(count: usize, beats: F) -> usize
     requires { (one other : ℕ) → one < count → other < count → F.pre beats one other }
     ensures value { (test : ℕ → ℕ → Bool) → AnswersAs test count (F.post beats) → result ≡ first_best test count }

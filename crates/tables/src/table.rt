@@ -10,8 +10,8 @@ mod growing;
 pub(crate) mod reading;
 mod rows;
 
-// The resources of a desk, in the order of their text, and its tasks, by rank. A table is empty or was filled by
-// `read`: no two resources and no two tasks have the same name, tasks stand by rising period, and a task's resource
+// The resources of a desk, in the order of their text, and its tasks, by rank. A table is empty, was filled by
+// `read`, or is a copy of such a one: no two resources and no two tasks have the same name, tasks stand by rising period, and a task's resource
 // is one of the table's.
 #[derive(Debug, Drop)]
 pub struct Table {

@@ -23,6 +23,7 @@ fn share_of(task: &Task) -> u64
     (1_000_000 * u64::from(task.critical)).div_ceil(u64::from(task.period))
 }
 
+// The searches of the three calls below stand apart from them, so that a wrong call is refused for its own contract.
 fn first_user(tasks: &[Task], resource: usize) -> Option<usize>
     ensures { result ≡ ceiling resource (rows tasks.now) }
 {

@@ -9,7 +9,8 @@ use analysis::{Seated, WeighFault, is_box};
 use disciplines::Discipline;
 use std::alloc::Global;
 
-// The weights of all tasks, by rank, or the first task that is late.
+// The weights of all tasks, by rank, or the first task that is late. A match, since the closure of a `map_err` would take
+// along the rank, which the loop's invariant names.
 fn weigh_tasks<D: Discipline>(
     heap: Global,
     seated: Seated,

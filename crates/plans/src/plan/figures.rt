@@ -14,11 +14,13 @@ fn figures_of(bounds: Bounds) -> [u32; 4]
     requires { total bounds ≤ 10000000 }
     ensures { result ≡ figures (bounds ∷ []) }
 {
+    // At most 10,000,000, so the cast loses nothing.
     let sum = bounds.total() as u32;
     [bounds.before, bounds.critical, bounds.after, sum]
 }
 
-// Writes the figures of each task to the front of the row.
+// Writes the figures of each task to the front of the row. By places, since of the slices that `chunks_mut` lends a proof
+// knows the length and no element.
 fn write_figures(weights: &[Weight], row: &mut [u32])
     requires room { 4 * length weights.now ≤ length row.old }
     requires small { All (λ w. total w.bounds ≤ 10000000) weights.now }

@@ -7,6 +7,7 @@ use crate::task::Task;
 use names::Name;
 use std::alloc::AllocError;
 
+// The names and the tasks are copied apart, each with its clause, so that copying a table needs no proof of its own.
 fn copy_names(names: &Vec<Name>) -> Result<Vec<Name>, AllocError>
     ensures value { IfOk result (λ copy. called copy.items ≡ called names.now.items) }
     ensures len { IfOk result (λ copy. vec_len copy ≡ vec_len names.now) }

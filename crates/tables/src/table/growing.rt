@@ -149,7 +149,7 @@ impl Table {
         Ok(())
     }
 
-    // The table with what one line more declares.
+    // The table with what one line more declares. The two kinds of line differ in what they declare, and in where it goes.
     pub(super) fn read_line(
         &mut self,
         heap: Global,
