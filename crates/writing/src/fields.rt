@@ -28,6 +28,14 @@ impl Writable for &[u8] {
     }
 }
 
+impl<const N: usize> Writable for &[u8; N] {
+    ghost written = { λ bytes. bytes.now };
+
+    fn write(self, out: &mut Vec<u8>) -> Result<(), AllocError> {
+        self.as_slice().write(out)
+    }
+}
+
 // A number is written in decimal.
 impl Writable for u64 {
     ghost written = { decimal };
@@ -59,6 +67,7 @@ impl Writable for usize {
     ghost written = { decimal };
 
     fn write(self, out: &mut Vec<u8>) -> Result<(), AllocError> {
+        // There is no `From`, though nothing is lost.
         (self as u64).write(out)
     }
 }
@@ -94,7 +103,8 @@ impl<T: Writable> Writable for Option<T> {
     }
 }
 
-// Writes a space and then the field.
+// Writes a space and then the field. What writes says by one equation what stands there afterwards; a word for it would be no
+// shorter.
 pub fn push_field<T: Writable>(out: &mut Vec<u8>, field: T) -> Result<(), AllocError>
     ensures { OnOk result (out.new.items ≡ out.old.items ++ 32 ∷ T.written field) }
 {

@@ -18,7 +18,7 @@ mod tests {
     fn a_line_has_fields_of_every_kind(rt: HostRuntime) -> Result<(), Fail> {
         let book = NameBuffer::new(rt.alloc())?.decode(b"P&amp;L").ok();
         let mut out = Vec::new(rt.alloc());
-        push_field(&mut out, b"run" as &[u8])?;
+        push_field(&mut out, b"run")?;
         push_field(&mut out, book.as_ref())?;
         push_field(&mut out, Text::Tasks)?;
         push_field(&mut out, 16u8)?;

@@ -3,7 +3,7 @@ ghost use Rattle.writing.specs.Naming.{text_name};
 
 use texts::Text;
 
-// A text as it is named.
+// A text as it is named: a call of its own, since it takes no memory, which writing does.
 pub fn text_name(text: Text) -> &'static [u8]
     ensures { result.now ≡ text_name text }
 {
