@@ -9,7 +9,7 @@ use fields::Ticks;
 use usage::ceiling;
 
 impl Seated<'_> {
-    // A task's critical section as a discipline sees it.
+    // A task's critical section as a discipline sees it. What is cut to its limits fits a byte.
     fn section(self, rank: usize) -> Section
         ensures { result ≡ section (rows_in self.entry) rank }
     {

@@ -11,7 +11,8 @@ pub enum Lateness {
     Whole,
 }
 
-// Why there is no plan.
+// Why there is no plan. Each layer has an error enum of its own, and takes faults up by hand: a
+// clause names the one that a question mark makes, which a derived `From` does not tell.
 #[derive(Clone, Copy, Debug)]
 pub enum WeighFault {
     // The number of processors is not 2 to 16.

@@ -3,7 +3,8 @@ ghost use Rattle.std.specs.Prelude.{◌≤◌};
 use fields::Ticks;
 use names::Name;
 
-// What a task line says, its names decoded. Whether that fits a table is not yet known.
+// What a task line says, its names decoded. Whether that fits a table is not yet known, so it is no task: a line in form may
+// break what every task keeps.
 #[derive(Debug, Drop)]
 pub struct Entry {
     pub name: Name,

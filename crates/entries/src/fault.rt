@@ -27,7 +27,7 @@ pub enum LineFault {
     Overfull,
 }
 
-// Why a line gives nothing: its fault, or want of memory.
+// Why a line gives nothing: its fault, or want of memory. Each layer has an error enum of its own.
 #[derive(Clone, Copy, Debug)]
 pub enum LineError {
     Fault(LineFault),

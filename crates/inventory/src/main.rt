@@ -8,6 +8,7 @@ use std::{fs, io};
 use texts::Texts;
 
 fn main(rt: HostRuntime) -> io::Result<()> {
+    // Read by each program itself: of what a file gives no contract can speak, but of `or_empty` it can.
     let resources = or_empty(rt.alloc(), fs::read(&rt, "resources.txt"))?;
     let tasks = or_empty(rt.alloc(), fs::read(&rt, "tasks.txt"))?;
     let texts = Texts {

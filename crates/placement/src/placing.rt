@@ -23,7 +23,7 @@ fn lateness_with(critical: Option<Ticks>) -> Lateness
     critical.map_or(Lateness::NoBound(PartKind::Critical), |_| Lateness::Whole)
 }
 
-// The fewest synchronisation processors to try: one, or none without a resource.
+// The fewest synchronisation processors to try: one, or none without a resource. Either fits a byte, as does what follows.
 fn fewest_syncs(table: &Table) -> u8
     ensures { result ≡ fewest (listed table.now) }
 {

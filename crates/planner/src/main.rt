@@ -11,6 +11,7 @@ use texts::Texts;
 fn main(rt: HostRuntime) -> io::Result<()> {
     let mut input = Vec::new(rt.alloc());
     BufReader::new(rt.alloc(), rt.stdin())?.read_until(b'\n', &mut input)?;
+    // Read by each program itself: of what a file gives no contract can speak, but of `or_empty` it can.
     let resources = or_empty(rt.alloc(), fs::read(&rt, "resources.txt"))?;
     let tasks = or_empty(rt.alloc(), fs::read(&rt, "tasks.txt"))?;
     let texts = Texts {

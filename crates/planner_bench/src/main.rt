@@ -11,7 +11,7 @@ use std::{env, fs};
 use tables::{Table, read};
 use texts::Texts;
 
-// The sum of all bounds of the plan that is found, or the rank of the late task.
+// The sum of all bounds of the plan that is found, or the rank of the late task: three arms, of which one alone is an error.
 fn outcome(heap: Global, table: &Table) -> anyhow::Result<u64> {
     match place(heap, 16, table, &Ceiling) {
         Ok(plan) => {

@@ -5,7 +5,7 @@ ghost use Rattle.spreading.specs.Spreading.{first_best, goes_first, heaviest, li
 
 use std::alloc::{AllocError, Global};
 
-// The seats while rounds go on.
+// The seats while rounds go on. The loads of the resources are lent for all rounds, so they stand apart.
 #[derive(Drop)]
 pub(crate) struct Chart {
     // The number of the first synchronisation processor.
@@ -79,7 +79,7 @@ impl Chart {
         })
     }
 
-    // One round: the heaviest resource without a seat goes to the lightest synchronisation processor.
+    // One round: the heaviest resource without a seat goes to the lightest synchronisation processor. Its number fits a byte.
     pub(crate) fn seat_next(&mut self, loads: &[u64])
         requires { Ready loads.now self.old.first (charted self.old) }
         ensures first { self.new.first ≡ self.old.first }

@@ -15,7 +15,8 @@ pub enum Refusal {
     Line(Text, usize, LineFault),
 }
 
-// Why no table was read.
+// Why no table was read. Each layer has an error enum of its own, and takes faults up by hand: a
+// clause names the one that a question mark makes, which a derived `From` does not tell.
 #[derive(Clone, Copy, Debug, PartialEq, Eq)]
 pub enum ReadFault {
     // The texts declare none.

@@ -5,7 +5,8 @@ pub enum Text {
     Tasks,
 }
 
-// Where something stands: in which text, line, field and byte, each counted from 1; 0 where it does not apply.
+// Where something stands: in which text, line, field and byte, each counted from 1; 0 where it does not apply, which is what
+// the formats tell there.
 #[derive(Clone, Copy, Debug, PartialEq, Eq)]
 pub struct Place {
     pub text: Text,

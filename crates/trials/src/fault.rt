@@ -3,7 +3,7 @@ ghost use Rattle.trials.specs.declared.fault.TrialFault.TheVariants.{Weigh};
 
 use analysis::WeighFault;
 
-// Why a trial has no answer.
+// Why a trial has no answer. Faults are taken up by hand, as everywhere.
 #[derive(Clone, Copy, Debug)]
 pub enum TrialFault {
     // There is no task of that number.

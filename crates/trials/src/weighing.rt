@@ -42,6 +42,7 @@ fn weigh_changed<D: Discipline>(
         homes: guard.bytes(),
     };
     let weights = weigh_seats(heap, processors, syncs, seated, discipline)?;
+    // The bounds keep a deadline, so their sum fits.
     Ok(weights[task].bounds.total() as Ticks)
 }
 

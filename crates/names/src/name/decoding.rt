@@ -10,7 +10,8 @@ use std::alloc::{AllocError, Global};
 
 const MOST_BYTES: usize = 32;
 
-// The name that a field stands for, into memory that has room for it.
+// The name that a field stands for, into memory that has room for it. Byte by byte, since a fault tells where in the field it
+// is, and a fold over what is left would carry that place along.
 fn decode_into(field: &[u8], name: &mut Vec<u8>) -> Result<(), NameFault>
     requires { (name.old.items ≡ []) × (32 ≤ vec_capacity name.old) }
     ensures { MatchResult result (λ _. (decoded_from five 0 1 [] field.now ≡ Ok name.new.items) × (length name.new.items ≤ 32)) (λ e. decoded_from five 0 1 [] field.now ≡ Err e) }

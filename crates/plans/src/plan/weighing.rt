@@ -42,7 +42,8 @@ fn fill(
     })
 }
 
-// Weighs a table through the slices of its seating, and fills a plan with what is found.
+// Weighs a table through the slices of its seating, and fills a plan with what is found. Apart from `weigh`, so that a wrong
+// `weigh` is refused for its own contract.
 fn weigh_table<D: Discipline>(
     heap: Global,
     processors: u8,
@@ -61,7 +62,8 @@ fn weigh_table<D: Discipline>(
     Ok(fill(processors, table, seating, weights)?)
 }
 
-// The plan of a table that is seated in a box; else the first of these: the box is none, the seating is not lawful, a
+// The plan of a table that is seated in a box (weighing, trying and placing stand in three crates, so that what they take is
+// no struct with them as its methods); else the first of these: the box is none, the seating is not lawful, a
 // task is late.
 pub fn weigh<D: Discipline>(
     heap: Global,
