@@ -28,7 +28,7 @@ pub enum LineFault {
 }
 
 // Why a line gives nothing: its fault, or want of memory. Each layer has an error enum of its own.
-#[derive(Clone, Copy, Debug)]
+#[derive(Clone, Copy, Debug, PartialEq, Eq)]
 pub enum LineError {
     Fault(LineFault),
     Memory,

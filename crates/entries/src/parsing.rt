@@ -37,8 +37,8 @@ fn guard_at(number: usize, field: Field, room: NameBuffer) -> Result<Option<Name
 }
 
 // The fields of a task line as what they stand for, from the left to the first fault.
-fn convert(line: TaskLine, name: NameBuffer, resource: NameBuffer) -> Result<Entry, LineFault>
-    ensures { result_map entered result ≡ entry_of (task_shapes line.entry) }
+fn convert(line: &TaskLine, name: NameBuffer, resource: NameBuffer) -> Result<Entry, LineFault>
+    ensures { result_map entered result ≡ entry_of (task_shapes line.now) }
 {
     let name = name_at(2, line.name, name)?;
     let before = figure_at(3, line.before, 0)?;
@@ -72,5 +72,5 @@ pub fn parse_task(heap: Global, line: &[u8]) -> Result<Entry, LineError>
     let fields = TaskLine::split(heap, line)?.ok_or(LineFault::Form)?;
     let name = NameBuffer::new(heap)?;
     let resource = NameBuffer::new(heap)?;
-    Ok(convert(fields, name, resource)?)
+    Ok(convert(&fields, name, resource)?)
 }

@@ -1,4 +1,4 @@
-ghost use Rattle.std.specs.Prelude.{◌≡◌, ◌<◌, ℕ, List, length, take, codes, IfOk, if◌then◌else◌, Some, None, nat_eq};
+ghost use Rattle.std.specs.Prelude.{◌≡◌, ◌<◌, ◌≤◌, ℕ, List, false, length, codes, IfOk, if◌then◌else◌, Some, None, nat_eq};
 ghost use Rattle.std.specs.Option.{option_map};
 ghost use Rattle.std.proofs.Common.{lit<};
 ghost use Rattle.fields.specs.Fields.{Shape};
@@ -59,14 +59,13 @@ pub trait LineForm<'a> {
     // and one more than its fields can be counted
     ghost few: { count < 100 };
 
-    // The fields of a line in this form; none where the line is not in form. It takes no more pieces than it needs to
-    // tell.
+    // The fields of a line in this form; none where the line is not in form. It reads no further than it takes to tell.
     final fn split(heap: Global, line: &'a [u8]) -> Result<Option<Self>, AllocError>
     where
         Self: Sized,
         ensures { IfOk result (λ o. option_map shapes o ≡ form count keyword fields line.now) }
     {
-        let pieces = split_fields(heap, line, Self::count() + 1)?;
+        let pieces = split_fields(heap, line, Self::count())?;
         if !in_form(&pieces, Self::count(), Self::keyword()) {
             return Ok(None);
         }
@@ -161,11 +160,16 @@ impl<'a> LineForm<'a> for TaskLine<'a> {
     ghost few = { lit< tt };
 }
 
-// The first pieces of a line between single spaces, `most` at the most.
+// The pieces of a line between single spaces, `most` at the most. Of a line that has more, the last is all that stands after
+// the others: it holds a space, so it is no field. It reads no further than the others, and takes memory once.
 fn split_fields(heap: Global, line: &[u8], most: usize) -> Result<Vec<&[u8]>, AllocError>
-    ensures { IfOk result (λ v. held v.items ≡ take most (pieces line.now)) }
+    requires { 0 < most }
+    ensures few { IfOk result (λ v. length (pieces line.now) ≤ most → held v.items ≡ pieces line.now) }
+    ensures many { IfOk result (λ v. most < length (pieces line.now) → all_filled (held v.items) ≡ false) }
 {
-    line.split(|b| *b == b' ').take(most).collect(heap)
+    let mut out = Vec::with_capacity(heap, most)?;
+    out.extend(line.splitn(most, |b| *b == b' '))?;
+    Ok(out)
 }
 
 // Whether each piece of a line is a field.

@@ -7,11 +7,12 @@ use Rattle.std.specs.Prelude.{◌≡◌, ℕ, List, ◌++◌, Ok, Err, Result}
 use Rattle.tables.specs.declared.fault.Refusal.{Refusal}
 use Rattle.tables.specs.Rows.{Listing}
 use Rattle.tables.specs.Reading.{read_of}
+use Rattle.tables.specs.Refusals.{notice_of}
 use Rattle.reports.specs.Reports.{resources_text, tasks_text, table_text, refusal_text}
 
 abbrev pub answer_text : Result Listing Refusal → List ℕ → List ℕ → List ℕ
 answer_text (Ok table) resources tasks = table_text table
-answer_text (Err refusal) resources tasks = refusal_text refusal resources tasks
+answer_text (Err refusal) resources tasks = refusal_text (notice_of refusal) resources tasks
 
 abbrev pub inventory_text : List ℕ → List ℕ → List ℕ
 inventory_text resources tasks = answer_text (read_of resources tasks) resources tasks

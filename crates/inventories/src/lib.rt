@@ -24,7 +24,7 @@ fn render(
 {
     match answer {
         Ok(table) => table_text(heap, &table),
-        Err(ReadFault::Refused(refusal)) => refusal_text(heap, &refusal, texts),
+        Err(ReadFault::Refused(refusal)) => refusal_text(heap, refusal.notice(), texts),
         Err(ReadFault::Memory) => Err(AllocError),
     }
 }

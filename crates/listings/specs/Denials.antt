@@ -8,8 +8,7 @@ use Rattle.std.specs.Prelude.{ℕ, List, Some, None, Option}
 use Rattle.std.specs.List.{slice_get}
 use Rattle.std.specs.Option.{option_map}
 use Rattle.names.specs.Spelled.{spelled}
-use Rattle.tables.specs.declared.fault.Refusal.{Refusal}
-use Rattle.tables.specs.Refusals as refusals
+use Rattle.tables.specs.declared.fault.Notice.{Notice}
 use Rattle.tables.specs.Rows.{Listing}
 use Rattle.analysis.specs.declared.lateness.Lateness.{Lateness}
 use Rattle.analysis.specs.declared.lateness.WeighFault.{WeighFault}
@@ -18,7 +17,7 @@ use Rattle.listings.specs.declared.denial.Denial.{Denial}
 use Rattle.listings.specs.declared.denial.Denial.TheVariants as denial
 
 pub data Reason : Type 0 where
-  unread : Refusal → Reason
+  unread : Notice → Reason
   no_box : Reason
   unlawful : Reason
   late : List ℕ → Lateness → Reason
@@ -26,7 +25,7 @@ pub data Reason : Type 0 where
   unknown_task : Reason
 
 abbrev pub reason_of : Denial → Reason
-reason_of (denial.Unread refusal) = unread refusal
+reason_of (denial.Unread notice) = unread notice
 reason_of denial.Box = no_box
 reason_of denial.Seat = unlawful
 reason_of (denial.Late name lateness) = late (spelled name.now) lateness
@@ -34,7 +33,7 @@ reason_of denial.ShortRow = short_row
 reason_of denial.NoTask = unknown_task
 
 abbrev pub number_of : Reason → ℕ
-number_of (unread refusal) = refusals.number_of refusal
+number_of (unread notice) = notice.number
 number_of no_box = 10
 number_of unlawful = 11
 number_of (late name lateness) = 12

@@ -13,7 +13,6 @@
 use Rattle.std.specs.Prelude.{ℕ, List, [], ◌∷◌, ◌++◌, Ok, Err, codes, decimal, slice_index, slice_index_or, Result}
 use Rattle.std.specs.Borrow.{Bor}
 use Rattle.names.specs.Names.{encoded}
-use Rattle.tables.specs.Refusals.{refused_at}
 use Rattle.tables.specs.Rows.{Row, Listing}
 use Rattle.writing.specs.Lines.{line_of, in_turn}
 use Rattle.writing.specs.Naming.{text_name}
@@ -62,7 +61,7 @@ lateness_word (NoBound After) = codes "after"
 lateness_word Whole = codes "whole"
 
 abbrev pub details_of : Reason → List (List ℕ)
-details_of (unread refusal) = text_name (refused_at refusal).text ∷ decimal (refused_at refusal).line ∷ []
+details_of (unread notice) = text_name notice.place.text ∷ decimal notice.place.line ∷ []
 details_of no_box = []
 details_of unlawful = []
 details_of (late name lateness) = encoded name ∷ lateness_word lateness ∷ []

@@ -6,13 +6,13 @@ ghost use Rattle.listings.specs.Denials.{denied_of, name_at, number_of, reason_o
 
 use analysis::{Lateness, WeighFault};
 use names::Name;
-use tables::{Refusal, Table};
+use tables::{Notice, Table};
 
 // A refusal as it is told.
 #[derive(Clone, Copy)]
 pub enum Denial<'a> {
     // Of a text, or of a line in it.
-    Unread(Refusal),
+    Unread(Notice),
     // The number of processors is not 2 to 16.
     Box,
     // The seating is not lawful.
@@ -31,7 +31,7 @@ impl Denial<'_> {
         ensures { result ≡ number_of (reason_of self.now) }
     {
         match self {
-            Denial::Unread(refusal) => refusal.number(),
+            Denial::Unread(notice) => notice.number,
             Denial::Box => 10,
             Denial::Seat => 11,
             Denial::Late(_, _) => 12,

@@ -25,10 +25,9 @@ fn push_details(out: &mut Vec<u8>, denial: &Denial<'_>) -> Result<(), AllocError
     ensures { OnOk result (out.new.items ≡ out.old.items ++ spaced_on (details_of (reason_of denial.now))) }
 {
     match denial {
-        Denial::Unread(refusal) => {
-            let place = refusal.place();
-            push_field(out, place.text)?;
-            push_field(out, place.line)
+        Denial::Unread(notice) => {
+            push_field(out, notice.place.text)?;
+            push_field(out, notice.place.line)
         }
         Denial::Late(name, lateness) => {
             push_field(out, *name)?;

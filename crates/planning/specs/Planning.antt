@@ -9,6 +9,7 @@ use Rattle.disciplines.specs.Rules.{Relation}
 use Rattle.disciplines.specs.Supplied.{always, under_ceiling}
 use Rattle.tables.specs.declared.fault.Refusal.{Refusal}
 use Rattle.tables.specs.Reading.{read_of}
+use Rattle.tables.specs.Refusals.{notice_of}
 use Rattle.tables.specs.Rows.{Listing}
 use Rattle.analysis.specs.declared.lateness.WeighFault.{WeighFault}
 use Rattle.analysis.specs.Weighing.{Planned}
@@ -43,7 +44,7 @@ ruled_text declared t = placed_text (relation_of declared.rule) declared.process
 -- the lines for two texts as they are read: their table's, or the line of their refusal
 abbrev pub table_text : BoxLine → Result Listing Refusal → List ℕ
 table_text declared (Ok t) = ruled_text declared t
-table_text declared (Err refusal) = denial_text (unread refusal)
+table_text declared (Err refusal) = denial_text (unread (notice_of refusal))
 
 -- the lines for a box, where there is one
 abbrev pub box_text : Option BoxLine → List ℕ → List ℕ → List ℕ

@@ -15,8 +15,7 @@ use Rattle.std.specs.Prelude.{ℕ, cond, List, [], ◌∷◌, ◌++◌, Some, No
 use Rattle.std.specs.List.{slice_get}
 use Rattle.names.specs.Names.{encoded}
 use Rattle.texts.specs.Lines.{line_at}
-use Rattle.tables.specs.declared.fault.Refusal.{Refusal}
-use Rattle.tables.specs.Refusals.{number_of, refused_at}
+use Rattle.tables.specs.declared.fault.Notice.{Notice}
 use Rattle.tables.specs.Rows.{Row, Listing}
 use Rattle.usage.specs.Usage.{ceiling, users, load}
 use Rattle.writing.specs.Lines.{line_of, or_dash, in_turn}
@@ -46,17 +45,17 @@ tasks_text t = in_turn (λ _ row. task_text t.resources row) 0 t.tasks
 abbrev pub table_text : Listing → List ℕ
 table_text t = resources_text t ++ tasks_text t
 
-abbrev pub head_text : Refusal → List ℕ
-head_text refusal = line_of (codes "refused" ∷ decimal (number_of refusal) ∷ text_name (refused_at refusal).text ∷ decimal (refused_at refusal).line ∷ [])
+abbrev pub head_text : Notice → List ℕ
+head_text notice = line_of (codes "refused" ∷ decimal notice.number ∷ text_name notice.place.text ∷ decimal notice.place.line ∷ [])
 
 abbrev pub quoted : List ℕ → List ℕ
 quoted line = codes "  " ++ line ++ 10 ∷ []
 
-abbrev pub bad_name_text : Refusal → List ℕ
-bad_name_text refusal =
-    cond (nat_lt 0 (refused_at refusal).byte)
-    (line_of (codes "  field" ∷ decimal (refused_at refusal).field ∷ codes "byte" ∷ decimal (refused_at refusal).byte ∷ []))
+abbrev pub bad_name_text : Notice → List ℕ
+bad_name_text notice =
+    cond (nat_lt 0 notice.place.byte)
+    (line_of (codes "  field" ∷ decimal notice.place.field ∷ codes "byte" ∷ decimal notice.place.byte ∷ []))
     []
 
-abbrev pub refusal_text : Refusal → List ℕ → List ℕ → List ℕ
-refusal_text refusal resources tasks = head_text refusal ++ quoted (line_at resources tasks (refused_at refusal)) ++ bad_name_text refusal
+abbrev pub refusal_text : Notice → List ℕ → List ℕ → List ℕ
+refusal_text notice resources tasks = head_text notice ++ quoted (line_at resources tasks notice.place) ++ bad_name_text notice

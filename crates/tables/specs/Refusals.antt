@@ -6,6 +6,7 @@ use Rattle.entries.specs.declared.fault.LineError.{LineError}
 use Rattle.entries.specs.declared.fault.LineError.TheVariants.{Fault, Memory as Wanting}
 use Rattle.entries.specs.declared.fault.LineFault.TheVariants.{Form, Figure, Name, Full, Twice, Unknown, Unmatched, Overfull}
 use Rattle.tables.specs.declared.fault.LinePlace.{LinePlace}
+use Rattle.tables.specs.declared.fault.Notice.{Notice}
 use Rattle.tables.specs.declared.fault.ReadFault.{ReadFault}
 use Rattle.tables.specs.declared.fault.ReadFault.TheVariants.{Refused, Memory}
 use Rattle.tables.specs.declared.fault.Refusal.{Refusal}
@@ -30,6 +31,10 @@ refused_at (Long text) = record { text = text; line = 0; field = 0; byte = 0 }
 refused_at (Line text k (Figure field)) = record { text = text; line = k; field = field; byte = 0 }
 refused_at (Line text k (Name field fault)) = record { text = text; line = k; field = field; byte = fault_byte fault }
 refused_at (Line text k _) = record { text = text; line = k; field = 0; byte = 0 }
+
+-- what is told of a refusal
+abbrev pub notice_of : Refusal → Notice
+notice_of refusal = record { number = number_of refusal; place = refused_at refusal }
 
 -- why no table was read, where a line gave nothing
 abbrev pub fault_at : LinePlace → LineError → ReadFault

@@ -1,5 +1,5 @@
 ghost use Rattle.std.specs.Prelude.{◌≡◌};
-ghost use Rattle.tables.specs.Refusals.{fault_at, number_of, refusal_of, refused_at};
+ghost use Rattle.tables.specs.Refusals.{fault_at, notice_of, number_of, refusal_of, refused_at};
 ghost use Rattle.tables.specs.declared.fault.ReadFault.TheVariants.{Memory, Refused};
 
 use entries::{At, LineError, LineFault};
@@ -23,6 +23,13 @@ pub enum ReadFault {
     Refused(Refusal),
     // Memory was wanting.
     Memory,
+}
+
+// A refusal as it is told: its number, and the place of what is refused.
+#[derive(Clone, Copy, Debug, PartialEq, Eq)]
+pub struct Notice {
+    pub number: u8,
+    pub place: Place,
 }
 
 // A line, by its text and its number.
@@ -96,6 +103,16 @@ impl Refusal {
             line,
             field,
             byte,
+        }
+    }
+
+    // What is told of the refusal.
+    pub fn notice(&self) -> Notice
+        ensures { result ≡ notice_of self.now }
+    {
+        Notice {
+            number: self.number(),
+            place: self.place(),
         }
     }
 }

@@ -5,7 +5,7 @@ mod fault;
 mod table;
 mod task;
 
-pub use fault::{ReadFault, Refusal};
+pub use fault::{Notice, ReadFault, Refusal};
 pub use table::Table;
 pub use table::reading::read;
 pub use task::Task;

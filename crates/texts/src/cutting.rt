@@ -15,8 +15,10 @@ pub fn cut(bytes: &[u8], separator: u8) -> (&[u8], Option<&[u8]>)
     ensures back { MatchOption result.1 (reach separator bytes.now ≡ length bytes.now) (λ t. (reach separator bytes.now < length bytes.now) × (t.now ≡ drop (reach separator bytes.now + 1) bytes.now)) }
     ensures after { IfSome result.1 (λ t. t.ref_ptr ≡ beyond bytes.entry.ref_ptr (reach separator bytes.now + 1)) }
 {
-    match place_of(bytes, separator) {
-        Some(place) => (&bytes[..place], Some(&bytes[place + 1..])),
-        None => (bytes, None),
+    let end = place_of(bytes, separator).unwrap_or(bytes.len());
+    if end < bytes.len() {
+        (&bytes[..end], Some(&bytes[end + 1..]))
+    } else {
+        (bytes, None)
     }
 }

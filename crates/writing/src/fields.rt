@@ -36,6 +36,14 @@ impl<const N: usize> Writable for &[u8; N] {
     }
 }
 
+impl Writable for &Vec<u8> {
+    ghost written = { λ bytes. bytes.now.items };
+
+    fn write(self, out: &mut Vec<u8>) -> Result<(), AllocError> {
+        out.extend_from_slice(self.as_slice())
+    }
+}
+
 // A number is written in decimal.
 impl Writable for u64 {
     ghost written = { decimal };

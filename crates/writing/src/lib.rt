@@ -33,4 +33,13 @@ mod tests {
         );
         Ok(())
     }
+
+    #[test]
+    fn a_vector_is_written_as_its_bytes(rt: HostRuntime) -> Result<(), Fail> {
+        let word = Vec::from_slice(rt.alloc(), b"surface")?;
+        let mut out = Vec::new(rt.alloc());
+        push_field(&mut out, &word)?;
+        assert_eq!(rt; out.as_slice(), b" surface" as &[u8]);
+        Ok(())
+    }
 }
