@@ -1,11 +1,22 @@
 -- Where a separator cuts a list of bytes, and the lines that the cuts give.
-use Rattle.std.proofs.Common.{Some, None, Option, IfSome, MatchOption, unwrap_or, sym, Bor, ◌≡◌, ℕ, ◌+◌, ◌<◌, ◌≤◌, true, false, cond, eqb, List, [], ◌∷◌, length, take, drop, refl, ap, ◌∙◌, add-one, arith}
-use Rattle.std.proofs.lemmas.List.{drop_all, length-take}
+use Rattle.std.proofs.Common.{Some, None, Option, IfSome, MatchOption, unwrap_or, sym, Bor, ◌≡◌, ℕ, ◌+◌, ◌<◌, ◌≤◌, true, false, cond, eqb, List, [], ◌∷◌, length, get_or, take, drop, refl, ap, ◌∙◌, add-one, arith}
+use Rattle.std.proofs.lemmas.List.{at_drop_more, at_drop_all, drop_all, length-take}
+use Rattle.std.proofs.lemmas.Bool.{cond-true, cond-false, eq-eqb, ne_eqb}
 use Rattle.texts.specs.Lines.{reach, lines, first_line, after_line, onto, beyond, parts_from, line_parts}
 
 pub reach-within : (sep : ℕ) (s : List ℕ) → reach sep s ≤ length s
 reach-within sep [] = omega arith
 reach-within sep (b ∷ s) = let h = reach-within sep s in grind arith
+
+-- one step of the search for a separator
+pub reach_here : (sep : ℕ) (s : List ℕ) (i : ℕ) → i < length s → get_or s i 0 ≡ sep → reach sep (drop i s) ≡ 0
+reach_here sep s i h e = at_drop_more (reach sep) s i 0 h ∙ cond-true (eqb (get_or s i 0) sep) _ _ (eq-eqb _ _ e)
+
+pub reach-next : (sep : ℕ) (s : List ℕ) (i : ℕ) → i < length s → (get_or s i 0 ≡ sep → ⊥) → reach sep (drop i s) ≡ reach sep (drop (i + 1) s) + 1
+reach-next sep s i h ne = at_drop_more (reach sep) s i 0 h ∙ cond-false (eqb (get_or s i 0) sep) _ _ (ne_eqb _ _ ne)
+
+pub reach-end : (sep : ℕ) (s : List ℕ) (i : ℕ) → length s ≤ i → reach sep (drop i s) ≡ 0
+reach-end sep s i h = at_drop_all (reach sep) s i h
 
 lines-shift : (b r : ℕ) (s : List ℕ) → ◌≡◌ {A = List (List ℕ)} ((b ∷ take r s) ∷ lines (drop (r + 1) s)) (take (r + 1) (b ∷ s) ∷ lines (drop (r + 1 + 1) (b ∷ s)))
 lines-shift b r s = simp add-one
