@@ -50,7 +50,7 @@ pub fn plan(heap: Global, input: &[u8], texts: Texts<'_>) -> Result<Vec<u8>, All
     };
     match read(heap, texts) {
         Ok(table) => ruled_text(heap, declared, &table),
-        Err(ReadFault::Refused(refusal)) => { text(heap, Err(Denial::Unread(refusal.notice()))) },
+        Err(ReadFault::Refused(refusal)) => text(heap, Err(Denial::Unread(refusal.notice()))),
         Err(ReadFault::Memory) => Err(AllocError),
     }
 }
